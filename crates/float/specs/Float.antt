@@ -1,0 +1,7 @@
+-- What the functions on floats mean beyond the logic's own account of IEEE 754 (`lib.Ieee`). Definitions only.
+use mathlib.Core.Bool.{cond}
+use lib.Ieee.{Float, lt}
+
+-- clipped to the limits: the minimum where x is below it, then the maximum where that is above it. A NaN is neither
+unfoldable pub clip : Float → Float → Float → Float
+clip x min max = let y = cond (lt x min) min x in cond (lt max y) max y
