@@ -1,0 +1,20 @@
+-- The limits that are taken, and the record that three maxima make. Definitions only.
+use Prim.Native.Nat.{ℕ}
+use mathlib.Core.Bool.{Bool, _&&_, false, cond}
+use lib.IntN.{pos, negsuc}
+use lib.Ieee.{Float, fin, le, neg}
+use Rattle.motor_core.specs.Error.{limit}
+use Rattle.motor_core.specs.declared.model.PvTLimits.{PvTLimits}
+use Rattle.motor_core.specs.declared.model.Limits.{Limits}
+use Rattle.motor_core.specs.declared.model.Limits.the-variants.{Accepted, Refused}
+
+-- "a limit not finite, below 1/1024 or above 65,536" is turned back; a NaN is at no end
+unfoldable pub limit-accepted : Float → Bool
+limit-accepted max = le (fin false 1 (negsuc 9)) max && le max (fin false 1 (pos 16))
+
+-- "one record of six floats, each minimum the negative of its maximum"
+abbrev pub from-maxima : Float → Float → Float → PvTLimits
+from-maxima p v t = record { «p_min» = neg p; «p_max» = p; «v_min» = neg v; «v_max» = v; «t_min» = neg t; «t_max» = t }
+
+unfoldable pub limits-of : Float → Float → Float → Limits
+limits-of p v t = cond (limit-accepted p && limit-accepted v && limit-accepted t) (Accepted (from-maxima p v t)) (Refused limit)
