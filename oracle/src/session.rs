@@ -63,6 +63,14 @@ impl Session {
         self.last
     }
 
+    pub fn motor_id(&self) -> u16 {
+        self.motor.motor_id
+    }
+
+    pub fn feedback_id(&self) -> u16 {
+        self.motor.feedback_id
+    }
+
     /// What the open run wants.
     pub fn wanted(&self) -> Option<Want> {
         self.run.as_ref().map(Run::wanted)
