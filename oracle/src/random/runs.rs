@@ -25,8 +25,11 @@ struct Temper {
     clock: Clock,
     /// A request is answered at all.
     replies: u64,
-    /// The answer has the value that is hoped for.
+    /// A reply has the value that is hoped for, before the first write and after.
+    right_at_first: u64,
     right: u64,
+    /// An ack has the value written.
+    right_ack: u64,
     /// The answer comes before the send is reported.
     early: u64,
     /// The answer waits for up to this many lines.
@@ -36,7 +39,7 @@ struct Temper {
     noise: u64,
     /// Answers and starts that are refused.
     blunders: u64,
-    /// Lines after which the clock leaps on.
+    /// Lines since the last send after which the clock leaps on.
     patience: u64,
 }
 
@@ -53,14 +56,20 @@ impl Temper {
                 Clock::Edges,
                 Clock::Edges,
             ]),
-            replies: rng.pick(&[0, 30, 70, 95, 100, 100]),
-            right: rng.pick(&[0, 20, 50, 80, 100]),
+            replies: rng.pick(&[0, 50, 90, 100, 100, 100, 100, 100]),
+            right_at_first: rng.pick(&[0, 0, 10, 10, 100]),
+            right: rng.pick(&[0, 20, 40, 80, 100]),
+            right_ack: rng.pick(&[0, 50, 90, 100, 100, 100]),
             early: rng.pick(&[0, 30, 70, 100]),
             delay: rng.pick(&[0, 1, 3, 10, 60]),
             send_fails: rng.pick(&[0, 0, 0, 1, 5, 30]),
             noise: rng.pick(&[0, 0, 3, 15, 40]),
             blunders: rng.pick(&[0, 0, 2, 10]),
-            patience: rng.pick(&[20, 60, 150, 400, 2000]),
+            patience: match rng.below(32) {
+                0 => 2000,
+                1..=3 => 300,
+                _ => rng.pick(&[0, 6, 12, 25, 50]),
+            },
         }
     }
 }
@@ -87,6 +96,9 @@ pub struct Runs {
     send_seen: bool,
     /// What is to be answered, and after how many lines.
     asked: Option<(Asked, u64)>,
+    /// Whether a write was wanted.
+    written: bool,
+    /// Lines since the last send.
     lines: u64,
 }
 
@@ -100,6 +112,7 @@ impl Runs {
             slept: 0,
             send_seen: false,
             asked: None,
+            written: false,
             lines: 0,
         }
     }
@@ -168,6 +181,9 @@ impl Runs {
     /// The next line while a run is open.
     pub fn line(&mut self, rng: &mut Rng, session: &Session, want: Want) -> Vec<u8> {
         self.lines += 1;
+        if session.last() > LAST_READING / 2 && rng.chance(5) {
+            return sessions::start(rng); // near the clock's end no wait would end
+        }
         if rng.chance(self.temper.blunders) {
             return self.blunder(rng, session);
         }
@@ -191,6 +207,7 @@ impl Runs {
             }
             Want::Send { .. } => {
                 self.send_seen = false;
+                self.lines = 0;
                 if rng.chance(self.temper.send_fails) {
                     self.asked = self.asked.filter(|_| rng.chance(30));
                     rng.pick(&[b"send-timeout".as_slice(), b"send-failed"])
@@ -211,6 +228,7 @@ impl Runs {
         if let Want::Send { id, data } = want {
             if !self.send_seen {
                 self.send_seen = true;
+                self.written |= matches!(request(id, data), Some(Asked::Ack { .. }));
                 self.asked = request(id, data)
                     .filter(|_| rng.chance(self.temper.replies))
                     .map(|asked| {
@@ -229,7 +247,11 @@ impl Runs {
         if rng.chance(90) {
             self.asked = None; // else it is repeated
         }
-        let right = rng.chance(self.temper.right);
+        let right = rng.chance(match asked {
+            Asked::Ack { .. } => self.temper.right_ack,
+            _ if self.written => self.temper.right,
+            _ => self.temper.right_at_first,
+        });
         let d0 = session.motor_id() as u8;
         let data = match asked {
             Asked::Reply { rid } => {
@@ -282,8 +304,13 @@ impl Runs {
             self.temper.clock
         };
         let on = |by: u64| last.saturating_add(by);
-        if leap && rng.chance(20) {
-            return on(self.timeout.min(61_000 * MS) + rng.below(70 * MS)).min(LAST_READING);
+        if leap && rng.chance(40) {
+            let wait = match rng.below(4) {
+                0 => self.timeout.min(61_000 * MS),
+                1 => self.timeout.min(100 * MS),
+                _ => 50 * MS,
+            };
+            return on(wait + rng.below(2 * MS)).min(LAST_READING);
         }
         let reading = match clock {
             Clock::Stands => last,
@@ -425,8 +452,9 @@ fn timeout(rng: &mut Rng) -> u64 {
         10 => 60_000 * MS,
         11 => rng.pick(&[60_000 * MS + 1, u64::MAX, 1 << 62]),
         12 => rng.below(60_000 * MS),
-        13 => rng.next(),
-        14..=17 => rng.below(50 * MS),
+        13 if rng.chance(30) => rng.next(),
+        14 | 15 => rng.below(50 * MS),
+        18..=20 => rng.below(5_000 * MS),
         _ => rng.below(1_000 * MS),
     }
 }
