@@ -10,6 +10,8 @@ mod random;
 mod refusals;
 mod session;
 mod stateless;
+#[cfg(test)]
+mod tests;
 
 use compare::Comparison;
 use oracle::Oracle;
