@@ -65,7 +65,10 @@ fn one_chunk(comparison: &Comparison, made: &Made) -> Result<(), String> {
     if let Some(keep) = &comparison.keep {
         std::fs::write(keep, &made.chunk.script).map_err(|error| format!("{keep}: {error}"))?;
     }
-    let mut report = difference(&made.chunk, &answers);
+    let mut report = String::new();
+    if answers != made.chunk.answers {
+        report += &difference(&made.chunk, &answers);
+    }
     if let Some(ended) = ended {
         report += &format!("the drive ended with {ended}\n");
     }

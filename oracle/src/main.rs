@@ -26,14 +26,17 @@ kinds: all, stateless, frames-out, frames-in, models, tables, sessions, runs, mo
 
 fn main() -> ExitCode {
     let arguments: Vec<String> = std::env::args().skip(1).collect();
-    let done = match arguments.split_first() {
-        Some((command, rest)) => Options::read(rest).and_then(|options| match command.as_str() {
-            "run" => run(),
-            "random" => random_script(&options),
-            "compare" => compare_with(&options),
-            _ => Err(USAGE.to_string()),
-        }),
-        None => Err(USAGE.to_string()),
+    let (command, rest) = match arguments.split_first() {
+        Some((command, rest)) => (command.as_str(), rest),
+        None => ("", [].as_slice()),
+    };
+    let done = match command {
+        "run" => Options::read(rest, &[]).and_then(|_| run()),
+        "random" => Options::read(rest, &["seed", "lines", "kinds", "script", "answers"])
+            .and_then(|options| random_script(&options)),
+        "compare" => Options::read(rest, &["drive", "seed", "lines", "kinds", "chunk", "keep"])
+            .and_then(|options| compare_with(&options)),
+        _ => Err(USAGE.to_string()),
     };
     match done {
         Ok(()) => ExitCode::SUCCESS,
@@ -48,15 +51,14 @@ fn main() -> ExitCode {
 struct Options(HashMap<String, String>);
 
 impl Options {
-    fn read(words: &[String]) -> Result<Self, String> {
+    fn read(words: &[String], known: &[&str]) -> Result<Self, String> {
         let mut options = HashMap::new();
         for pair in words.chunks(2) {
-            match pair {
-                [name, value] if name.starts_with("--") => {
-                    options.insert(name[2..].to_string(), value.clone());
-                }
-                _ => return Err(USAGE.to_string()),
+            let name = pair[0].strip_prefix("--").unwrap_or_default();
+            if pair.len() < 2 || !known.contains(&name) {
+                return Err(USAGE.to_string());
             }
+            options.insert(name.to_string(), pair[1].clone());
         }
         Ok(Options(options))
     }

@@ -58,7 +58,7 @@ fn bench_cases() {
         match 0x41480000 0x42340000 0x41200000 0 => models G6215 H6220
         match 0x41480000 0x42340000 0x41200000 0x7FC00000 => models
         suggest 0x41480000 0x41F00000 0x41200000 3 => models 4310 G6215 H6220
-        suggest 0xC692A844 0x46A12838 0xC7276C48 0 => models",
+        suggest 0xC692A844 0x46A12838 0xC7276C48 16 => models H3510 3507 4310P G6215 H6220 4310 6006 JH11 4340_v20 8006 4340 4340P 8009 6248P 10010L 10010",
     );
 }
 
@@ -292,6 +292,38 @@ fn mode_switch_that_fails() {
         clock 0 => want send 2047 0100330A00000000
         send-failed => send-failed",
     );
+}
+
+#[test]
+fn hold_positions_keep_their_bits() {
+    // At motor 0x4FF these bits make the force-position frame a read of register 10; a NaN's travel too.
+    for (bits, held, mit) in [
+        ("FF04330A", "FF04330A", "7FFF"),
+        ("0100807F", "0100807F", "0000"),
+        ("230180FF", "230180FF", "0000"),
+    ] {
+        check(&format!(
+            "start-model 4310 0x4FF 0x11 => started
+            mode 4 2000000 => want clock
+            clock 0 => want clock
+            clock 0 => want clock
+            clock 0 => want send 2047 FF04330A00000000
+            send-timeout => want clock
+            clock 0 => want clock
+            clock 0 => want send 2047 FF04335000000000
+            frame 0 0x11 0xFF003350{bits} 8 0 => taken
+            sent => want send 1791 0000000000000000
+            sent => want send 1535 {held}00000000
+            sent => want send 2047 {held}00000000
+            sent => want send 1279 {mit}7FF0000007FF
+            sent => want send 2047 FF04550A04000000
+            sent => want clock
+            frame 0 0x11 0xFF00550A04000000 8 0 => taken
+            clock 0 => want clock
+            clock 0 => want send 2047 {held}00000000
+            send-timeout => timeout"
+        ));
+    }
 }
 
 #[test]

@@ -118,3 +118,18 @@ fn entries(values: &HashMap<u8, RegisterValue>, times: &HashMap<u8, Instant>) ->
     held.sort_by_key(|entry| entry.0);
     held
 }
+
+#[cfg(test)]
+mod tests {
+    use super::*;
+
+    #[test]
+    fn caps_of_the_mode_reads() {
+        let mode_cap = |total| {
+            let hard_cap = Duration::from_millis(ENSURE_MODE_REGISTER_READ_TIMEOUT_MS);
+            budget_cap(Duration::from_millis(total), hard_cap, 4)
+        };
+        assert_eq!(mode_cap(400), Duration::from_millis(100));
+        assert_eq!(mode_cap(0), Duration::from_millis(2));
+    }
+}

@@ -199,3 +199,82 @@ impl<T> Drop for Run<T> {
         let _ = READY.try_with(|ready| ready.borrow_mut().push(side));
     }
 }
+
+#[cfg(test)]
+mod tests {
+    use super::*;
+    use crate::{at_reading, sleep, Instant};
+    use std::time::Duration;
+
+    fn wants<T>(progress: Progress<T>) -> Run<T> {
+        match progress {
+            Progress::Wants(run) => run,
+            Progress::Ended(_) => panic!("it has ended"),
+        }
+    }
+
+    #[test]
+    fn a_run_stops_at_each_want() {
+        let run = wants(Run::start(|| {
+            let begun = Instant::now();
+            sleep(Duration::from_millis(2));
+            let sent = send(0x7FF, [1; 8]);
+            (Instant::now().checked_duration_since(begun), sent)
+        }));
+        assert_eq!(run.wanted(), Want::Clock);
+        assert!(!run.fits(Answer::Slept));
+        let run = wants(run.answer(Answer::Reading(5)));
+        assert_eq!(run.wanted(), Want::Sleep(2_000_000));
+        let run = wants(run.answer(Answer::Slept));
+        let id = 0x7FF;
+        assert_eq!(run.wanted(), Want::Send { id, data: [1; 8] });
+        // A frame that is taken meanwhile has its own reading.
+        assert_eq!(at_reading(9, Instant::now), Instant(9));
+        let run = wants(run.answer(Answer::SendTimeout));
+        match run.answer(Answer::Reading(12)) {
+            Progress::Ended(result) => {
+                let expected = (Some(Duration::from_nanos(7)), Err(SendError::Timeout));
+                assert_eq!(result, expected);
+            }
+            Progress::Wants(_) => panic!("it has not ended"),
+        }
+    }
+
+    #[test]
+    fn an_abandoned_run_frees_what_it_holds() {
+        let held = Rc::new(());
+        for _ in 0..1000 {
+            let inside = Rc::clone(&held);
+            let run = wants(Run::start(move || {
+                while send(1, [0; 8]).is_ok() {
+                    sleep(Duration::from_millis(1));
+                }
+                drop(inside);
+            }));
+            drop(run.answer(Answer::Sent));
+        }
+        assert_eq!(Rc::strong_count(&held), 1);
+        assert!(READY.with_borrow(|ready| ready.len()) <= 1);
+    }
+
+    #[test]
+    fn two_runs_may_be_open_together() {
+        let work = || (Instant::now(), Instant::now());
+        let one = wants(Run::start(work));
+        let other = wants(Run::start(work));
+        let one = wants(one.answer(Answer::Reading(1)));
+        let other = wants(other.answer(Answer::Reading(2)));
+        let ended = |progress| match progress {
+            Progress::Ended(result) => result,
+            Progress::Wants(_) => panic!("it has not ended"),
+        };
+        assert_eq!(
+            ended(one.answer(Answer::Reading(3))),
+            (Instant(1), Instant(3))
+        );
+        assert_eq!(
+            ended(other.answer(Answer::Reading(4))),
+            (Instant(2), Instant(4))
+        );
+    }
+}
