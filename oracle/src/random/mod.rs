@@ -126,13 +126,8 @@ impl Generator<'_> {
             Models => stateless::models(rng),
             Tables => stateless::tables(rng),
             Bad => {
-                let good = match self
-                    .rng
-                    .pick(&[FramesOut, FramesIn, Models, Tables, Sessions, Runs, Mode])
-                {
-                    Bad => unreachable!("not among them"),
-                    family => self.line(family),
-                };
+                let family = rng.pick(&[FramesOut, FramesIn, Models, Tables, Sessions, Runs, Mode]);
+                let good = self.line(family);
                 bad::line(&mut self.rng, good)
             }
             Sessions | Runs | Mode => {
