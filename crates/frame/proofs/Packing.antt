@@ -4,7 +4,7 @@ use mathlib.Core.List.{List, [], _∷_, _++_}
 use Prim.Native.Nat.{ℕ, _+_, _*_, _/_, _%_, _^_, _<_}
 use native.Mathlib.Omega.{arith}
 use lib.Pow.{pow-add}
-use Rattle.frame.specs.Layout.{Field, field, byte, packed, packed-onto, little-endian}
+use Rattle.frame.specs.Layout.{Field, field, byte, packed, packed-onto, little-endian, data-byte}
 
 -- how many bits the fields have
 pub total : List Field → ℕ
@@ -33,3 +33,30 @@ four-bytes n b = onto n (little-endian 4 b)
 pub four-bytes-lt : (b : ℕ) → packed (little-endian 4 b) < 2 ^ 32
 unfolding packed-onto little-endian
 four-bytes-lt b = omega arith
+
+-- eight bytes that are packed come back as d0 to d7
+abbrev pub eight : ℕ → ℕ → ℕ → ℕ → ℕ → ℕ → ℕ → ℕ → ℕ
+eight a b c d e f g h = packed (byte a ∷ (byte b ∷ (byte c ∷ (byte d ∷ (byte e ∷ (byte f ∷ (byte g ∷ (byte h ∷ []))))))))
+
+pub record AreBytes (n a b c d e f g h : ℕ) : Type 0 where
+  pub d0 : data-byte n 0 ≡ a
+  pub d1 : data-byte n 1 ≡ b
+  pub d2 : data-byte n 2 ≡ c
+  pub d3 : data-byte n 3 ≡ d
+  pub d4 : data-byte n 4 ≡ e
+  pub d5 : data-byte n 5 ≡ f
+  pub d6 : data-byte n 6 ≡ g
+  pub d7 : data-byte n 7 ≡ h
+
+pub eight-bytes : (a b c d e f g h : ℕ) → a < 256 → b < 256 → c < 256 → d < 256 → e < 256 → f < 256 → g < 256 → h < 256 → AreBytes (eight a b c d e f g h) a b c d e f g h
+unfolding packed-onto
+eight-bytes a b c d e f g h a8 b8 c8 d8 e8 f8 g8 h8 = record {
+      d0 = omega arith;
+      d1 = omega arith;
+      d2 = omega arith;
+      d3 = omega arith;
+      d4 = omega arith;
+      d5 = omega arith;
+      d6 = omega arith;
+      d7 = omega arith
+    }

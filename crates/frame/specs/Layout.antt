@@ -31,3 +31,7 @@ little-endian (suc k) n = byte n ∷ little-endian k (n / 256)
 unfoldable pub bytes : ℕ → ℕ → List Field
 bytes zero n = []
 bytes (suc k) n = byte n ∷ bytes k n
+
+-- d0 to d7 of a frame's data
+abbrev pub data-byte : ℕ → ℕ → ℕ
+data-byte n k = n / 256 ^ (7 - k) % 256
