@@ -1,0 +1,59 @@
+// The line script's text: numbers, words and calls to read, and bytes and numbers to write.
+mod numbers;
+mod text;
+
+pub mod calls;
+
+pub use calls::parse;
+pub use numbers::field;
+pub use numbers::number;
+pub use text::put;
+pub use text::put_decimal;
+pub use text::put_hex;
+
+ghost use mathlib.Core.Path.{_≡_};
+ghost use Prim.Native.Nat.{_+_};
+ghost use lib.ListN.{drop};
+ghost use Rattle.script.specs.Word.{indexOf, same};
+
+// A word that has a value, or has none.
+pub enum Read {
+    Value(u64),
+    Bad,
+}
+
+// A line's call and its arguments, in their order, with zeros after them. A name's argument is its length.
+pub struct Call {
+    pub code: u64,
+    pub args: [u64; 9],
+}
+
+// The first place of `byte` in `s` from `from` on, or the end of `s`.
+pub fn index_of(s: &[u8], from: usize, byte: u8) -> usize
+    ensures { λ r. ⌜ r ≡ from + indexOf byte (drop from (now (s .entry))) ⌝ }
+{
+    let mut i = from;
+    while i < s.len() {
+        if s[i] == byte {
+            return i;
+        }
+        i += 1;
+    }
+    i
+}
+
+pub fn same_bytes(a: &[u8], b: &[u8]) -> bool
+    ensures { λ r. ⌜ r ≡ same (now (a .entry)) (now (b .entry)) ⌝ }
+{
+    if a.len() != b.len() {
+        return false;
+    }
+    let mut i = 0;
+    while i < a.len() {
+        if a[i] != b[i] {
+            return false;
+        }
+        i += 1;
+    }
+    true
+}
