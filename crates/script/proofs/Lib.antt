@@ -1,3 +1,4 @@
 pub mod Words
 pub mod Digits
 pub mod Fields
+pub mod Parsing
