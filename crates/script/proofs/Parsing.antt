@@ -1,18 +1,18 @@
 -- Laws of `specs/Line.antt`, by the tests of the code. Assumes nothing.
 use Prim.Native.Nat.{ℕ, zero, suc, _+_, _-_, _≤_, _<_, zero-le}
 use mathlib.Core.Path.{_≡_, refl, sym, ap, _∙_}
-use mathlib.Core.Bool.{Bool, true, false, cond}
+use mathlib.Core.Bool.{Bool, true, false, cond, _||_}
 use mathlib.Core.List.{List, [], _∷_}
-use native.Mathlib.Nat.{sub-zero}
+use native.Mathlib.Nat.{sub-zero, le-of-eq, not-suc-le-zero}
 use native.Mathlib.Numerals.{add-one}
 use native.Mathlib.Omega.{arith}
 use lib.ListN.{length, getD, take, drop, set, replicate, drop-of-length-le}
 use lib.Seq.{drop-cons}
-use lib.Dec.{leb, leb·zero}
-use borrow.Author.Tests.{lt-ltb, le-ltb}
+use lib.Dec.{leb, eqb, leb·zero}
+use borrow.Author.Tests.{lt-ltb, le-ltb, eq-eqb, ne-eqb}
 use Rattle.script.specs.Number.{fieldOf}
 use Rattle.script.specs.Word.{indexOf, same, split, wordsFrom}
-use Rattle.script.specs.Line.{badCall, withValue, fieldsOf, callFrom, callOf}
+use Rattle.script.specs.Line.{badCall, noCall, calls, withValue, fieldsOf, callFrom, callOf, has, passedOver, parsed}
 use Rattle.script.specs.declared.Read.{Read}
 use Rattle.script.specs.declared.Read.the-variants.{Value, Bad}
 use Rattle.script.specs.declared.Call.{Call}
@@ -93,3 +93,37 @@ module _ (table word : List ℕ) (words : List (List ℕ)) (code at : ℕ) where
 
       pub passed : same (take (n - at) (drop at table)) word ≡ false → callFrom (wordsFrom table at) word words code ≡ callFrom (wordsFrom table (m + 1)) word words (code + 1)
       passed e = row-at false e
+
+-- ---- a line, by the tests that come first
+pub too-long : (line : List ℕ) → 4095 < length line → parsed line ≡ badCall
+unfolding parsed
+too-long line h = simp (lt-ltb 4095 (length line) h)
+
+pub nothing : (line : List ℕ) → length line ≡ 0 → parsed line ≡ noCall
+unfolding parsed
+nothing [] e = refl
+nothing (b ∷ rest) e = absurd (not-suc-le-zero (le-of-eq e))
+
+starts : (line : List ℕ) (t : Bool) → (length line ≡ 0 → ⊥) → eqb (getD line 0 0) 35 ≡ t → passedOver line ≡ t
+starts [] t n e = absurd (n refl)
+starts (b ∷ rest) t n e = e
+
+module _ (line : List ℕ) (h : length line ≤ 4095) (n : length line ≡ 0 → ⊥) where
+  pub comment : getD line 0 0 ≡ 35 → parsed line ≡ noCall
+  unfolding parsed
+  comment e = simp (le-ltb 4095 (length line) h, starts line true n (eq-eqb (getD line 0 0) 35 e))
+
+  module _ (k : getD line 0 0 ≡ 35 → ⊥) where
+    left-over : parsed line ≡ cond (has 9 line || has 13 line) badCall (callOf calls (split line))
+    unfolding parsed
+    left-over = simp (le-ltb 4095 (length line) h, starts line false n (ne-eqb (getD line 0 0) 35 k))
+
+    pub tabbed : (i : ℕ) → i ≡ 0 + indexOf 9 (drop 0 line) → i < length line → parsed line ≡ badCall
+    tabbed i q e = left-over ∙ simp (lt-ltb (indexOf 9 line) (length line) (omega arith))
+
+    module _ (i : ℕ) (q : i ≡ 0 + indexOf 9 (drop 0 line)) (e : length line ≤ i) (j : ℕ) (p : j ≡ 0 + indexOf 13 (drop 0 line)) where
+      pub returned : j < length line → parsed line ≡ badCall
+      returned f = left-over ∙ simp (le-ltb (indexOf 9 line) (length line) (omega arith), lt-ltb (indexOf 13 line) (length line) (omega arith))
+
+      pub called : length line ≤ j → parsed line ≡ callOf calls (split line)
+      called f = left-over ∙ simp (le-ltb (indexOf 9 line) (length line) (omega arith), le-ltb (indexOf 13 line) (length line) (omega arith))
