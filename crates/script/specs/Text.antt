@@ -1,18 +1,23 @@
 -- Numbers as text, and text put into a buffer.
-use Prim.Native.Nat.{ℕ, zero, suc, _+_, _-_, _/_, _%_, min, max}
+use Prim.Native.Nat.{ℕ, zero, suc, _+_, _-_, _/_, _%_, min}
 use Prim.Native.Char.{code}
 use mathlib.Core.Bool.{cond}
 use mathlib.Core.List.{List, [], _∷_, _++_}
-use lib.ListN.{length, take, drop}
+use lib.ListN.{length}
+use lib.Seq.{paste}
 use lib.Dec.{ltb, eqb}
 
--- the text from place at on, cut where the buffer ends
-unfoldable pub putAt : List ℕ → ℕ → List ℕ → List ℕ
-putAt buffer at text = take at buffer ++ (take (length buffer - at) text ++ drop (at + length text) buffer)
+-- how many bytes of the text the buffer has room for, from place at on
+abbrev pub fitting : List ℕ → ℕ → List ℕ → ℕ
+fitting buffer at text = min (length text) (length buffer - at)
 
--- the place after it
+-- the buffer with those bytes at that place
+unfoldable pub putAt : List ℕ → ℕ → List ℕ → List ℕ
+putAt buffer at text = paste buffer at text (fitting buffer at text)
+
+-- the place after them
 unfoldable pub placeAfter : List ℕ → ℕ → List ℕ → ℕ
-placeAfter buffer at text = max at (min (at + length text) (length buffer))
+placeAfter buffer at text = at + fitting buffer at text
 
 unfoldable pub glyph : ℕ → ℕ
 glyph d = cond (ltb d 10) (code "0" + d) (code "A" + (d - 10))

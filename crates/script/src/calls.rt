@@ -4,7 +4,6 @@ use crate::Read;
 use crate::index_of;
 use crate::numbers::field;
 use crate::same_bytes;
-
 ghost use mathlib.Core.Path.{_≡_};
 ghost use lib.ListN.{replicate};
 ghost use Rattle.script.specs.Word.{split, wordsFrom};
@@ -12,48 +11,85 @@ ghost use Rattle.script.specs.Line.{plain, fieldsOf, callOf, parsed};
 
 // A call's code is its row's place in the table.
 pub const START_LIMITS: u64 = 0;
+
 pub const START_MODEL: u64 = 1;
+
 pub const GET_U32: u64 = 2;
+
 pub const GET_F32: u64 = 3;
+
 pub const WRITE_U32: u64 = 4;
+
 pub const WRITE_F32: u64 = 5;
+
 pub const FRESH_STATE: u64 = 6;
+
 pub const STORE: u64 = 7;
+
 pub const MODE: u64 = 8;
+
 pub const CLOCK: u64 = 9;
+
 pub const SENT: u64 = 10;
+
 pub const SEND_TIMEOUT: u64 = 11;
+
 pub const SEND_FAILED: u64 = 12;
+
 pub const SLEPT: u64 = 13;
+
 pub const FRAME: u64 = 14;
+
 pub const FRAME_LENT: u64 = 15;
+
 pub const ACCEPTS: u64 = 16;
+
 pub const PATCH: u64 = 17;
+
 pub const SESSION: u64 = 18;
+
 pub const MIT: u64 = 19;
+
 pub const POS_VEL: u64 = 20;
+
 pub const VEL: u64 = 21;
+
 pub const FORCE_POS: u64 = 22;
+
 pub const READ_REG: u64 = 23;
+
 pub const WRITE_REG: u64 = 24;
+
 pub const STORE_PARAMS: u64 = 25;
+
 pub const FEEDBACK_REQUEST: u64 = 26;
+
 pub const DISABLE: u64 = 27;
+
 pub const ZERO: u64 = 28;
+
 pub const CLEAR: u64 = 29;
+
 pub const DECODE: u64 = 30;
+
 pub const SORT: u64 = 31;
+
 pub const STATUS_NAME: u64 = 32;
+
 pub const REGISTER: u64 = 33;
+
 pub const MATCH: u64 = 34;
+
 pub const SUGGEST: u64 = 35;
 // No call: a bad line, and a line that is passed over.
 pub const BAD: u64 = 254;
+
 pub const NOTHING: u64 = 255;
 
 // Each call's word, and a letter for the kind of each argument: f a flag, b 8 bits, i 16, w 32,
 // q 64, n a name.
-const CALLS: [u8; 421] = *b"start-limits iiwww start-model nii get-u32 bq get-f32 bq write-u32 bw write-f32 bw fresh-state q store  mode wq clock q sent  send-timeout  send-failed  slept  frame qwqbf frame-lent qwqbf accepts wqbf patch bbb session  mit iwwwwwwww pos-vel iww vel iw force-pos iwww read-reg ib write-reg ibw store-params i feedback-request i disable i zero i clear i decode wwwq sort q status-name b register b match wwww suggest wwwq";
+const CALLS: [u8; 421] =
+    *b"start-limits iiwww start-model nii get-u32 bq get-f32 bq write-u32 bw write-f32 bw fresh-state q store  mode wq clock q sent  send-timeout  send-failed  slept  frame qwqbf frame-lent qwqbf accepts wqbf patch bbb session  mit iwwwwwwww pos-vel iww vel iw force-pos iwww read-reg ib write-reg ibw store-params i feedback-request i disable i zero i clear i decode wwwq sort q status-name b register b match wwww suggest wwwq";
 
 // A code with no arguments.
 fn bare(code: u64) -> Call

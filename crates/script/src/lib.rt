@@ -1,8 +1,7 @@
 // The line script's text: numbers, words and calls to read, and bytes and numbers to write.
+pub mod calls;
 mod numbers;
 mod text;
-
-pub mod calls;
 
 pub use calls::parse;
 pub use numbers::field;
@@ -10,7 +9,6 @@ pub use numbers::number;
 pub use text::put;
 pub use text::put_decimal;
 pub use text::put_hex;
-
 ghost use mathlib.Core.Path.{_≡_};
 ghost use Prim.Native.Nat.{_+_};
 ghost use lib.ListN.{drop};

@@ -1,6 +1,5 @@
 // A word as a number.
 use crate::Read;
-
 ghost use mathlib.Core.Path.{_≡_};
 ghost use Prim.Native.Nat.{_<_};
 ghost use lib.ListN.{drop};

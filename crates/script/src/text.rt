@@ -1,6 +1,6 @@
 // Bytes and numbers put into a buffer. What does not fit is dropped.
 ghost use mathlib.Core.Path.{_≡_};
-ghost use Prim.Native.Nat.{_≤_, _<_};
+ghost use Prim.Native.Nat.{_≤_, _<_, min};
 ghost use lib.ListN.{length, take, drop};
 ghost use Rattle.script.specs.Text.{putAt, placeAfter, digits, trimmed, decimal, hexadecimal};
 ghost use Rattle.script.specs.Text.{glyph as Text·glyph};
@@ -37,9 +37,15 @@ pub fn put_hex(out: &mut [u8], at: usize, n: u64, width: usize) -> usize
     ensures { λ r. ⌜ (now (out .exit) ≡ putAt (now (out .entry)) at (hexadecimal width n)) × (r ≡ placeAfter (now (out .entry)) at (hexadecimal width n)) ⌝ }
 {
     let mut text = [0u8; 16];
-    let k = if width < 16 { width } else { 16 };
+    let k = least(width, 16);
     spell(n, 16, k, &mut text);
     put(out, at, &text[..k])
+}
+
+fn least(a: usize, b: usize) -> usize
+    ensures { λ r. ⌜ r ≡ min a b ⌝ }
+{
+    if a < b { a } else { b }
 }
 
 // Puts the last k digits of n in base at the start of out.

@@ -22,7 +22,7 @@ shared-slice-read-if1 : tie.Need-shared-slice-read-if1 Inv-loop μ-loop
 shared-slice-read-if1 c = omega arith
 
 returns : tie.Need-returns Inv-loop μ-loop
-returns c = 
+returns c =
     let l = c .before .before .before .loop in
     let a = c .before .before .before .before .args in
     sym (l .inv ∙ hit (a .s .now) (l .i) (a .byte) (c .before .before .loop-test .taken) (c .if1 .taken))
@@ -34,13 +34,13 @@ loop-less : tie.Need-loop-less Inv-loop μ-loop
 loop-less c = omega arith
 
 loop-again : tie.Need-loop-again Inv-loop μ-loop
-loop-again c = 
+loop-again c =
     let l = c .before .before .before .loop in
     let a = c .before .before .before .before .args in
     l .inv ∙ miss (a .s .now) (l .i) (a .byte) (c .before .before .loop-test .taken) (c .if1 .left)
 
 returns-2 : tie.Need-returns-2 Inv-loop μ-loop
-returns-2 c = 
+returns-2 c =
     let l = c .before .loop in
     let a = c .before .before .args in
     sym (l .inv ∙ none (a .s .now) (l .i) (a .byte) (c .loop-test .left))

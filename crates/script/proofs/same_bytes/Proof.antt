@@ -28,7 +28,7 @@ shared-slice-read-if2-2 : tie.Need-shared-slice-read-if2-2 Inv-loop μ-loop
 shared-slice-read-if2-2 c = omega arith
 
 returns-2 : tie.Need-returns-2 Inv-loop μ-loop
-returns-2 c = 
+returns-2 c =
     let l = c .before .before .before .before .loop in
     let a = c .before .before .before .before .before .before .args in
     sym (l .inv ∙ same-not (a .a .now) (a .b .now) (l .i) (omega arith) (omega arith) (c .if2 .taken))
@@ -40,13 +40,13 @@ loop-less : tie.Need-loop-less Inv-loop μ-loop
 loop-less c = omega arith
 
 loop-again : tie.Need-loop-again Inv-loop μ-loop
-loop-again c = 
+loop-again c =
     let l = c .before .before .before .before .loop in
     let a = c .before .before .before .before .before .before .args in
     l .inv ∙ same-next (a .a .now) (a .b .now) (l .i) (omega arith) (omega arith) (c .if2 .left)
 
 returns-3 : tie.Need-returns-3 Inv-loop μ-loop
-returns-3 c = 
+returns-3 c =
     let l = c .before .loop in
     let a = c .before .before .before .args in
     sym (l .inv ∙ same-end (a .a .now) (a .b .now) (l .i) (omega arith) (omega arith))

@@ -14,7 +14,7 @@ use Rattle.script.proofs.calls.call_by.Statement.{statement}
 use Rattle.script.proofs.calls.call_by.Tie as tie
 
 abbrev Inv-loop : tie.InvT-loop
-Inv-loop table line end at₀ code₀ at code = 
+Inv-loop table line end at₀ code₀ at code =
     (callOf (split table) (split line) ≡ callFrom (wordsFrom table at) (take end line) (wordsFrom line (end + 1)) code) × (code ≤ at)
 
 abbrev μ-loop : tie.MeasureT-loop
@@ -24,7 +24,7 @@ index-of-requires : tie.Need-index-of-requires Inv-loop μ-loop
 index-of-requires c κs = search needs
 
 loop-holds : tie.Need-loop-holds Inv-loop μ-loop
-loop-holds c = 
+loop-holds c =
     let a = c .before .before .before .args in
     (begun (a .table .now) (a .line .now) (c .index-of .result) (c .index-of .ensures), omega arith)
 
@@ -35,7 +35,7 @@ bare-requires : tie.Need-bare-requires Inv-loop μ-loop
 bare-requires c κs = search needs
 
 returns : tie.Need-returns Inv-loop μ-loop
-returns c = 
+returns c =
     let a = c .before .before .before .before .before .before .before .before .args in
     let l = c .before .before .before .before .loop in
     let end = c .before .before .before .before .before .index-of in
@@ -58,7 +58,7 @@ part-same-bytes-end : tie.Need-part-same-bytes-end Inv-loop μ-loop
 part-same-bytes-end c = omega arith
 
 slice-aggregate-same-bytes : tie.Need-slice-aggregate-same-bytes Inv-loop μ-loop
-slice-aggregate-same-bytes c = 
+slice-aggregate-same-bytes c =
     let a = c .before .before .before .before .before .before .before .before .before .before .args in
     let end = c .before .before .before .before .before .before .before .index-of in
     sym (length-take-le (end .result) (a .line .now) (end-le 32 (a .line .now) 0 (end .result) zero-le (end .ensures)))
@@ -73,7 +73,7 @@ part-fields-start : tie.Need-part-fields-start Inv-loop μ-loop
 part-fields-start c = omega (arith, c .before .before .before .before .index-of3 .ensures)
 
 part-fields-end : tie.Need-part-fields-end Inv-loop μ-loop
-part-fields-end c = 
+part-fields-end c =
     let a = c .before .before .before .before .before .before .before .before .before .before .before .before .args in
     let l = c .before .before .before .before .before .before .before .before .loop in
     let end = c .before .before .before .before .before .before .before .before .before .index-of in
@@ -82,7 +82,7 @@ part-fields-end c =
     end-le 32 (a .table .now) (name .result + 1) (kinds .result) (omega arith) (kinds .ensures)
 
 add-fields : tie.Need-add-fields Inv-loop μ-loop
-add-fields c = 
+add-fields c =
     let a = c .before .before .before .before .before .before .before .before .before .before .before .before .before .args in
     let end = c .before .before .before .before .before .before .before .before .before .before .index-of in
     omega (arith, end-le 32 (a .line .now) 0 (end .result) zero-le (end .ensures))
@@ -91,7 +91,7 @@ fields-requires : tie.Need-fields-requires Inv-loop μ-loop
 fields-requires c κs = search needs
 
 returns-2 : tie.Need-returns-2 Inv-loop μ-loop
-returns-2 c = 
+returns-2 c =
     let a = c .before .before .before .before .before .before .before .before .before .before .before .before .before .before .args in
     let l = c .before .before .before .before .before .before .before .before .before .before .loop in
     let end = c .before .before .before .before .before .before .before .before .before .before .before .index-of in
@@ -101,7 +101,7 @@ returns-2 c =
     c .fields .ensures ∙ sym (l .inv .0 ∙ found (a .table .now) (take (end .result) (a .line .now)) (wordsFrom (a .line .now) (end .result + 1)) (l .code) (l .at) (name .result) (omega arith) (name .ensures) (kinds .result) (omega arith) (kinds .ensures) (sym (same .ensures) ∙ c .before .before .if2 .taken))
 
 add-at : tie.Need-add-at Inv-loop μ-loop
-add-at c = 
+add-at c =
     let a = c .before .before .before .before .before .before .before .before .before .before .before .before .args in
     let l = c .before .before .before .before .before .before .before .before .loop in
     let end = c .before .before .before .before .before .before .before .before .before .index-of in
@@ -116,7 +116,7 @@ loop-less : tie.Need-loop-less Inv-loop μ-loop
 loop-less c = omega (arith, c .before .before .before .before .before .before .index-of2 .ensures, c .before .before .before .before .index-of3 .ensures)
 
 loop-again : tie.Need-loop-again Inv-loop μ-loop
-loop-again c = 
+loop-again c =
     let a = c .before .before .before .before .before .before .before .before .before .before .before .before .args in
     let l = c .before .before .before .before .before .before .before .before .loop in
     let end = c .before .before .before .before .before .before .before .before .before .index-of in
@@ -131,7 +131,7 @@ bare-requires-2 : tie.Need-bare-requires-2 Inv-loop μ-loop
 bare-requires-2 c κs = search needs
 
 returns-3 : tie.Need-returns-3 Inv-loop μ-loop
-returns-3 c = 
+returns-3 c =
     let a = c .before .before .before .before .before .before .args in
     let l = c .before .before .loop in
     let end = c .before .before .before .index-of in

@@ -12,7 +12,7 @@ use Rattle.script.proofs.calls.fields.Statement.{statement}
 use Rattle.script.proofs.calls.fields.Tie as tie
 
 abbrev Inv-loop : tie.InvT-loop
-Inv-loop kinds line at code args₀ from₀ i₀ args from i = 
+Inv-loop kinds line at code args₀ from₀ i₀ args from i =
     fieldsOf kinds (wordsFrom line at) code 0 (replicate 9 0) ≡ fieldsOf (drop i kinds) (wordsFrom line from) code i args
 
 abbrev μ-loop : tie.MeasureT-loop
@@ -25,7 +25,7 @@ bare-requires : tie.Need-bare-requires Inv-loop μ-loop
 bare-requires c κs = search needs
 
 returns : tie.Need-returns Inv-loop μ-loop
-returns c = 
+returns c =
     let l = c .before .before .before .loop in
     let a = c .before .before .before .before .before .before .args in
     c .bare .ensures ∙ sym (l .inv ∙ missing (a .kinds .now) (a .line .now) (a .code) (l .from) (l .i) (l .args) (omega arith) (omega arith))
@@ -34,7 +34,7 @@ bare-requires-2 : tie.Need-bare-requires-2 Inv-loop μ-loop
 bare-requires-2 c κs = search needs
 
 returns-2 : tie.Need-returns-2 Inv-loop μ-loop
-returns-2 c = 
+returns-2 c =
     let l = c .before .before .before .before .loop in
     let a = c .before .before .before .before .before .before .before .args in
     c .bare2 .ensures ∙ sym (l .inv ∙ many (a .kinds .now) (a .line .now) (a .code) (l .from) (l .i) (l .args) (omega arith) (omega arith) (omega arith))
@@ -52,7 +52,7 @@ part-field-start : tie.Need-part-field-start Inv-loop μ-loop
 part-field-start c = omega (arith, c .before .index-of .ensures)
 
 part-field-end : tie.Need-part-field-end Inv-loop μ-loop
-part-field-end c = 
+part-field-end c =
     let l = c .before .before .before .before .before .loop in
     let a = c .before .before .before .before .before .before .before .before .args in
     end-le 32 (a .line .now) (l .from) (c .before .index-of .result) (omega arith) (c .before .index-of .ensures)
@@ -70,7 +70,7 @@ bare-requires-3 : tie.Need-bare-requires-3 Inv-loop μ-loop
 bare-requires-3 c κs = search needs
 
 returns-3 : tie.Need-returns-3 Inv-loop μ-loop
-returns-3 c = 
+returns-3 c =
     let l = c .before .before .before .before .before .before .before .before .before .before .loop in
     let a = c .before .before .before .before .before .before .before .before .before .before .before .before .before .args in
     let end = c .before .before .before .before .before .before .index-of in
@@ -83,7 +83,7 @@ array-write-args : tie.Need-array-write-args Inv-loop μ-loop
 array-write-args c = omega arith
 
 add-from : tie.Need-add-from Inv-loop μ-loop
-add-from c = 
+add-from c =
     let l = c .before .before .before .before .before .before .before .before .before .before .loop in
     let a = c .before .before .before .before .before .before .before .before .before .before .before .before .before .args in
     let end = c .before .before .before .before .before .before .index-of in
@@ -96,7 +96,7 @@ loop-less : tie.Need-loop-less Inv-loop μ-loop
 loop-less c = search needs
 
 loop-again : tie.Need-loop-again Inv-loop μ-loop
-loop-again c = 
+loop-again c =
     let l = c .before .before .before .before .before .before .before .before .before .before .loop in
     let a = c .before .before .before .before .before .before .before .before .before .before .before .before .before .args in
     let end = c .before .before .before .before .before .before .index-of in
@@ -106,13 +106,13 @@ bare-requires-4 : tie.Need-bare-requires-4 Inv-loop μ-loop
 bare-requires-4 c κs = search needs
 
 returns-4 : tie.Need-returns-4 Inv-loop μ-loop
-returns-4 c = 
+returns-4 c =
     let l = c .before .before .before .loop in
     let a = c .before .before .before .before .before .before .args in
     c .bare4 .ensures ∙ sym (l .inv ∙ extra (a .kinds .now) (a .line .now) (a .code) (l .from) (l .i) (l .args) (omega arith) (omega arith))
 
 returns-5 : tie.Need-returns-5 Inv-loop μ-loop
-returns-5 c = 
+returns-5 c =
     let l = c .before .before .loop in
     let a = c .before .before .before .before .before .args in
     sym (l .inv ∙ whole (a .kinds .now) (a .line .now) (a .code) (l .from) (l .i) (l .args) (omega arith) (omega arith))

@@ -12,7 +12,7 @@ bare-requires : tie.Need-bare-requires
 bare-requires c κs = search needs
 
 returns : tie.Need-returns
-returns c = 
+returns c =
     let a = c .before .before .before .args in
     let s = a .line .now in
     c .bare .ensures ∙ sym (too-long s (omega arith))
@@ -21,7 +21,7 @@ bare-requires-2 : tie.Need-bare-requires-2
 bare-requires-2 c κs = search needs
 
 returns-2 : tie.Need-returns-2
-returns-2 c = 
+returns-2 c =
     let a = c .before .before .before .before .args in
     let s = a .line .now in
     c .bare2 .ensures ∙ sym (nothing s (c .before .if2 .taken))
@@ -33,7 +33,7 @@ bare-requires-3 : tie.Need-bare-requires-3
 bare-requires-3 c κs = search needs
 
 returns-3 : tie.Need-returns-3
-returns-3 c = 
+returns-3 c =
     let a = c .before .before .before .before .before .before .args in
     let s = a .line .now in
     c .bare3 .ensures ∙ sym (comment s (omega arith) (c .before .before .before .if2 .left) (c .before .if3 .taken))
@@ -45,7 +45,7 @@ bare-requires-4 : tie.Need-bare-requires-4
 bare-requires-4 c κs = search needs
 
 returns-4 : tie.Need-returns-4
-returns-4 c = 
+returns-4 c =
     let a = c .before .before .before .before .before .before .before .before .args in
     let s = a .line .now in
     let tab = c .before .before .index-of in
@@ -58,7 +58,7 @@ bare-requires-5 : tie.Need-bare-requires-5
 bare-requires-5 c κs = search needs
 
 returns-5 : tie.Need-returns-5
-returns-5 c = 
+returns-5 c =
     let a = c .before .before .before .before .before .before .before .before .before .before .args in
     let s = a .line .now in
     let tab = c .before .before .before .before .index-of in
@@ -74,7 +74,7 @@ call-by-requires c κs = search needs
 
 returns-6 : tie.Need-returns-6
 unfolding split bytes calls
-returns-6 c = 
+returns-6 c =
     let a = c .before .before .before .before .before .before .before .before .before .before .before .args in
     let s = a .line .now in
     let tab = c .before .before .before .before .before .index-of in

@@ -19,7 +19,7 @@ returns : tie.Need-returns Inv-loop μ-loop
 returns c = sym (empty (c .before .before .args .base) (c .before .before .args .word .now) (c .before .before .args .from) (omega arith))
 
 loop-holds : tie.Need-loop-holds Inv-loop μ-loop
-loop-holds c = 
+loop-holds c =
     let a = c .before .before .args in
     (first (a .base) (a .word .now) (a .from) (omega arith), omega arith)
 
@@ -30,7 +30,7 @@ digit-requires : tie.Need-digit-requires Inv-loop μ-loop
 digit-requires c κs = omega arith
 
 returns-2 : tie.Need-returns-2 Inv-loop μ-loop
-returns-2 c = 
+returns-2 c =
     let l = c .before .before .before .before .loop in
     let a = c .before .before .before .before .before .before .before .args in
     let s = a .word .now in
@@ -44,7 +44,7 @@ div-if3 : tie.Need-div-if3 Inv-loop μ-loop
 div-if3 c = omega arith
 
 returns-3 : tie.Need-returns-3 Inv-loop μ-loop
-returns-3 c = 
+returns-3 c =
     let l = c .before .before .before .before .before .loop in
     let a = c .before .before .before .before .before .before .before .before .args in
     let s = a .word .now in
@@ -65,7 +65,7 @@ loop-less : tie.Need-loop-less Inv-loop μ-loop
 loop-less c = omega arith
 
 loop-again : tie.Need-loop-again Inv-loop μ-loop
-loop-again c = 
+loop-again c =
     let l = c .before .before .before .before .before .loop in
     let a = c .before .before .before .before .before .before .before .before .args in
     let s = a .word .now in
@@ -75,7 +75,7 @@ loop-again c =
     )
 
 returns-4 : tie.Need-returns-4 Inv-loop μ-loop
-returns-4 c = 
+returns-4 c =
     let l = c .before .loop in
     let a = c .before .before .before .before .args in
     sym (l .inv .0 ∙ last (a .base) (l .value) (a .word .now) (l .i) (omega arith) (l .inv .1))

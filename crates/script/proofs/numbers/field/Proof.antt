@@ -7,12 +7,12 @@ use Rattle.script.proofs.numbers.field.Statement.{statement}
 use Rattle.script.proofs.numbers.field.Tie as tie
 
 returns : tie.Need-returns
-returns c = 
+returns c =
     let a = c .before .before .before .args in
     sym (no-name (a .kind) (a .word .now) (c .before .if1 .taken) (c .if2 .taken))
 
 returns-2 : tie.Need-returns-2
-returns-2 c = 
+returns-2 c =
     let a = c .before .before .before .args in
     sym (a-name (a .kind) (a .word .now) (c .before .if1 .taken) (c .if2 .left))
 
@@ -29,19 +29,19 @@ enum-told : tie.Need-enum-told
 enum-told c = search needs
 
 returns-3 : tie.Need-returns-3
-returns-3 c = 
+returns-3 c =
     let a = c .before .before .before .before .before .before .before .before .args in
     let e = sym (c .before .before .before .before .before .number .ensures) ∙ c .before .before .before .v .given .1 in
     sym (within (a .kind) (a .word .now) (c .before .before .before .before .before .before .if1 .left) _ e (omega arith))
 
 returns-4 : tie.Need-returns-4
-returns-4 c = 
+returns-4 c =
     let a = c .before .before .before .before .before .before .before .before .args in
     let e = sym (c .before .before .before .before .before .number .ensures) ∙ c .before .before .before .v .given .1 in
     sym (beyond (a .kind) (a .word .now) (c .before .before .before .before .before .before .if1 .left) _ e (omega arith))
 
 returns-5 : tie.Need-returns-5
-returns-5 c = 
+returns-5 c =
     let a = c .before .before .before .before .before .args in
     let e = sym (c .before .before .number .ensures) ∙ c .enum-told .given .1 in
     sym (no-number (a .kind) (a .word .now) (c .before .before .before .if1 .left) e)

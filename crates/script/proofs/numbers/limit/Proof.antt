@@ -23,7 +23,7 @@ returns-4 c = sym (ap limitOf (c .match .keys4))
 
 returns-5 : tie.Need-returns-5
 unfolding limitOf
-returns-5 c = 
+returns-5 c =
     let r = c .match .rest in
     simp (ne-eqb _ _ (r .0 .0 .0 .1), ne-eqb _ _ (r .0 .0 .1), ne-eqb _ _ (r .0 .1), ne-eqb _ _ (r .1))
 

@@ -34,7 +34,7 @@ digits-requires-4 : tie.Need-digits-requires-4
 digits-requires-4 c κs = search needs
 
 returns-4 : tie.Need-returns-4
-returns-4 c = 
+returns-4 c =
     c .digits4 .ensures
     ∙ sym (zero-x (c .before .before .before .before .before .before .before .args .word .now) (omega arith) (c .before .before .before .if2 .left) (c .before .if3 .left))
 
