@@ -1,3 +1,4 @@
 // The numbers of the refusals, as document 01 has them.
 pub const LIMIT: u8 = 1;
+
 pub const MOTOR_ID: u8 = 2;

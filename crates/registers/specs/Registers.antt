@@ -11,7 +11,6 @@ use Rattle.registers.specs.declared.RegisterInfo.{RegisterInfo}
 use Rattle.registers.specs.declared.RegisterInfo.the-variants.{Unknown, Known}
 
 infix 30 _to_
-
 -- n numbers from a on
 unfoldable pub count-from : ℕ → ℕ → List ℕ
 count-from a zero = []

@@ -1,5 +1,6 @@
 // A line as a call, by a table of the calls' words and the kinds of their arguments.
 use crate::Call;
+use crate::MAX_LINE;
 use crate::Read;
 use crate::index_of;
 use crate::numbers::field;
@@ -156,7 +157,7 @@ fn call_by(table: &[u8], line: &[u8]) -> Call
 pub fn parse(line: &[u8]) -> Call
     ensures { λ r. ⌜ r ≡ parsed (now (line .entry)) ⌝ }
 {
-    if line.len() > 4095 {
+    if line.len() > MAX_LINE {
         return bare(BAD);
     }
     if line.len() == 0 {

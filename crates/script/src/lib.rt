@@ -14,6 +14,9 @@ ghost use Prim.Native.Nat.{_+_};
 ghost use lib.ListN.{drop};
 ghost use Rattle.script.specs.Word.{indexOf, same};
 
+// The bytes that a line may have.
+pub const MAX_LINE: usize = 4095;
+
 // A word that has a value, or has none.
 pub enum Read {
     Value(u64),
