@@ -4,7 +4,7 @@ use registers::RegisterDataType;
 use registers::RegisterInfo;
 use script::Call;
 use script::calls;
-use script::put;
+use text::put;
 
 pub(crate) fn bad_line(output: &mut [u8], to: usize) -> usize {
     put(output, to, b"bad line\n")

@@ -61,17 +61,17 @@ fn read_after(input: &mut [u8], held: usize) -> usize
     held + n
 }
 
-// Answers each line of `text` that ends in a newline. The first may be the rest of a long one.
-fn whole_lines(text: &[u8], is_long: bool, output: &mut [u8], to: usize) -> Progress {
+// Answers each line of `chunk` that ends in a newline. The first may be the rest of a long one.
+fn whole_lines(chunk: &[u8], is_long: bool, output: &mut [u8], to: usize) -> Progress {
     let mut from = 0;
     let mut long = is_long;
     let mut at = to;
-    while from < text.len() {
-        let end = script::index_of(text, from, b'\n');
-        if end >= text.len() {
+    while from < chunk.len() {
+        let end = script::index_of(chunk, from, b'\n');
+        if end >= chunk.len() {
             break;
         }
-        at = one_line(&text[from..end], long, output, at);
+        at = one_line(&chunk[from..end], long, output, at);
         long = false;
         from = end + 1;
     }

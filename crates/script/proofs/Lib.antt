@@ -2,4 +2,3 @@ pub mod Words
 pub mod Digits
 pub mod Fields
 pub mod Parsing
-pub mod Buffers

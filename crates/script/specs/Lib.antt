@@ -1,4 +1,3 @@
 pub mod Number
 pub mod Word
-pub mod Text
 pub mod Line

@@ -1,14 +1,10 @@
-// The line script's text: numbers, words and calls to read, and bytes and numbers to write.
+// The line script: numbers, words and the calls that lines are.
 pub mod calls;
 mod numbers;
-mod text;
 
 pub use calls::parse;
 pub use numbers::field;
 pub use numbers::number;
-pub use text::put;
-pub use text::put_decimal;
-pub use text::put_hex;
 ghost use mathlib.Core.Path.{_≡_};
 ghost use Prim.Native.Nat.{_+_};
 ghost use lib.ListN.{drop};

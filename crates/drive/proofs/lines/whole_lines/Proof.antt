@@ -8,10 +8,10 @@ use Rattle.drive.proofs.lines.whole_lines.Statement.{statement}
 use Rattle.drive.proofs.lines.whole_lines.Tie as tie
 
 abbrev Inv-loop : tie.InvT-loop
-Inv-loop text is-long output₀ to from₀ long₀ at₀ output from long at = length output ≡ length output₀
+Inv-loop chunk is-long output₀ to from₀ long₀ at₀ output from long at = length output ≡ length output₀
 
 abbrev μ-loop : tie.MeasureT-loop
-μ-loop text is-long output₀ to from₀ long₀ at₀ output from long at = length text - from
+μ-loop chunk is-long output₀ to from₀ long₀ at₀ output from long at = length chunk - from
 
 loop-holds : tie.Need-loop-holds Inv-loop μ-loop
 loop-holds c = refl

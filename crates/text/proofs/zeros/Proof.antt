@@ -1,12 +1,12 @@
--- `script::text::zeros` meets its contract. The invariant: only zeros have been passed, and never the last digit. Assumes nothing.
+-- `text::zeros` meets its contract. The invariant: only zeros have been passed, and never the last digit. Assumes nothing.
 use Prim.Native.Nat.{ℕ, _+_, _-_, _≤_}
 use mathlib.Core.Path.{_≡_, refl, sym, ap, _∙_}
 use native.Mathlib.Omega.{arith}
 use lib.ListN.{length, drop}
-use Rattle.script.specs.Text.{trimmed}
-use Rattle.script.proofs.Buffers.{at-last, not-zero, a-zero}
-use Rattle.script.proofs.text.zeros.Statement.{statement}
-use Rattle.script.proofs.text.zeros.Tie as tie
+use Rattle.text.specs.Text.{trimmed}
+use Rattle.text.proofs.Buffers.{at-last, not-zero, a-zero}
+use Rattle.text.proofs.zeros.Statement.{statement}
+use Rattle.text.proofs.zeros.Tie as tie
 
 abbrev Inv-loop : tie.InvT-loop
 Inv-loop text i₀ next₀ i next = (next ≡ i + 1) × (i ≤ length text) × (trimmed text ≡ trimmed (drop i text))

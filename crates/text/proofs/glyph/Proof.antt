@@ -1,9 +1,9 @@
--- `script::text::glyph` meets its contract. Assumes nothing.
+-- `text::glyph` meets its contract. Assumes nothing.
 use borrow.Author.Needs.{needs}
 use borrow.Author.Tests.{lt-ltb, le-ltb}
-use Rattle.script.specs.Text.{glyph}
-use Rattle.script.proofs.text.glyph.Statement.{statement}
-use Rattle.script.proofs.text.glyph.Tie as tie
+use Rattle.text.specs.Text.{glyph}
+use Rattle.text.proofs.glyph.Statement.{statement}
+use Rattle.text.proofs.glyph.Tie as tie
 
 cast-result : tie.Need-cast-result
 cast-result c = search needs

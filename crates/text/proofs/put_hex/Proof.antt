@@ -1,13 +1,13 @@
--- `script::text::put_hex` meets its contract: the digits are spelt and put. Assumes nothing.
+-- `text::put_hex` meets its contract: the digits are spelt and put. Assumes nothing.
 use Prim.Native.Nat.{ℕ}
 use mathlib.Core.Path.{_≡_, sym, ap, _∙_}
 use native.Mathlib.Omega.{arith}
 use lib.ListN.{take}
 use lib.Seq.{length-take-le}
 use borrow.Author.Needs.{needs}
-use Rattle.script.specs.Text.{putAt, placeAfter, digits, hexadecimal}
-use Rattle.script.proofs.text.put_hex.Statement.{statement}
-use Rattle.script.proofs.text.put_hex.Tie as tie
+use Rattle.text.specs.Text.{putAt, placeAfter, digits, hexadecimal}
+use Rattle.text.proofs.put_hex.Statement.{statement}
+use Rattle.text.proofs.put_hex.Tie as tie
 
 least-requires : tie.Need-least-requires
 least-requires c κs = search needs

@@ -8,7 +8,7 @@ use native.Mathlib.Omega.{arith}
 use lib.ListN.{length, getD, take, drop, set, length-drop}
 use lib.Seq.{slice, drop-cons, length-take-le, take-set-lt, append-snoc}
 use borrow.Author.Tests.{eq-eqb, ne-eqb}
-use Rattle.script.specs.Text.{glyph, digits, trimmed}
+use Rattle.text.specs.Text.{glyph, digits, trimmed}
 
 -- ---- digits, written from the last one on
 -- after a store at j, the list from j on begins with what was stored

@@ -1,4 +1,4 @@
--- `script::text::spell` meets its contract. The invariant: the digits of `rest` and those written are all the digits. Assumes nothing.
+-- `text::spell` meets its contract. The invariant: the digits of `rest` and those written are all the digits. Assumes nothing.
 use Prim.Native.Nat.{ℕ, _≤_, _-_}
 use mathlib.Core.Path.{_≡_, refl, ap, _∙_}
 use mathlib.Core.List.{List, _++_, append-nil}
@@ -6,10 +6,10 @@ use native.Mathlib.Nat.{le-refl, mod-lt}
 use native.Mathlib.Omega.{arith}
 use lib.ListN.{length, length-set}
 use lib.Seq.{slice, slice-empty}
-use Rattle.script.specs.Text.{digits}
-use Rattle.script.proofs.Buffers.{moved}
-use Rattle.script.proofs.text.spell.Statement.{statement}
-use Rattle.script.proofs.text.spell.Tie as tie
+use Rattle.text.specs.Text.{digits}
+use Rattle.text.proofs.Buffers.{moved}
+use Rattle.text.proofs.spell.Statement.{statement}
+use Rattle.text.proofs.spell.Tie as tie
 
 abbrev Inv-loop : tie.InvT-loop
 Inv-loop n base k out₀ i₀ rest₀ out i rest = (length out ≡ length out₀) × (i ≤ k) × (digits base i rest ++ slice i k out ≡ digits base k n)

@@ -1,4 +1,4 @@
--- `script::text::put` meets its contract. The invariant: the first i bytes of the text are in their places. Assumes nothing.
+-- `text::put` meets its contract. The invariant: the first i bytes of the text are in their places. Assumes nothing.
 use Prim.Native.Nat.{ℕ, _+_, _-_, _≤_, min}
 use mathlib.Core.Path.{_≡_, refl, sym, ap, _∙_}
 use mathlib.Core.List.{List}
@@ -6,9 +6,9 @@ use native.Mathlib.Numerals.{add-one}
 use native.Mathlib.Omega.{arith}
 use lib.ListN.{length, set, getD, length-set}
 use lib.Seq.{paste, paste-zero, paste-suc}
-use Rattle.script.specs.Text.{putAt, placeAfter}
-use Rattle.script.proofs.text.put.Statement.{statement}
-use Rattle.script.proofs.text.put.Tie as tie
+use Rattle.text.specs.Text.{putAt, placeAfter}
+use Rattle.text.proofs.put.Statement.{statement}
+use Rattle.text.proofs.put.Tie as tie
 
 abbrev Inv-loop : tie.InvT-loop
 Inv-loop out₀ at text i₀ to₀ out i to =

@@ -2,8 +2,8 @@
 ghost use mathlib.Core.Path.{_≡_};
 ghost use Prim.Native.Nat.{_≤_, _<_, min};
 ghost use lib.ListN.{length, take, drop};
-ghost use Rattle.script.specs.Text.{putAt, placeAfter, digits, trimmed, decimal, hexadecimal};
-ghost use Rattle.script.specs.Text.{glyph as Text·glyph};
+ghost use Rattle.text.specs.Text.{putAt, placeAfter, digits, trimmed, decimal, hexadecimal};
+ghost use Rattle.text.specs.Text.{glyph as Text·glyph};
 
 // Puts `text` into `out` from `at` on, and answers the place after it.
 pub fn put(out: &mut [u8], at: usize, text: &[u8]) -> usize

@@ -1,13 +1,13 @@
--- `script::text::put_decimal` meets its contract: twenty digits are spelt, and put without the zeros in front. Assumes nothing.
+-- `text::put_decimal` meets its contract: twenty digits are spelt, and put without the zeros in front. Assumes nothing.
 use Prim.Native.Nat.{_-_}
 use mathlib.Core.Path.{_≡_, sym, ap, _∙_}
 use native.Mathlib.Omega.{arith}
 use lib.ListN.{length, take, drop, length-drop}
 use lib.Seq.{take-all}
 use borrow.Author.Needs.{needs}
-use Rattle.script.specs.Text.{putAt, placeAfter, digits, trimmed, decimal}
-use Rattle.script.proofs.text.put_decimal.Statement.{statement}
-use Rattle.script.proofs.text.put_decimal.Tie as tie
+use Rattle.text.specs.Text.{putAt, placeAfter, digits, trimmed, decimal}
+use Rattle.text.proofs.put_decimal.Statement.{statement}
+use Rattle.text.proofs.put_decimal.Tie as tie
 
 slice-aggregate-spell : tie.Need-slice-aggregate-spell
 slice-aggregate-spell c = search needs
