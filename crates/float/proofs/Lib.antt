@@ -1,2 +1,4 @@
 pub mod Nans
 pub mod Truncating
+pub mod Rounding
+pub mod AtMost

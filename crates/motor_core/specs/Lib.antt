@@ -1,3 +1,4 @@
 pub mod Bus
 pub mod Error
 pub mod Model
+pub mod Name

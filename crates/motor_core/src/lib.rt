@@ -3,4 +3,5 @@
 pub mod bus;
 pub mod error;
 pub mod model;
+pub mod name;
 pub mod time;

@@ -46,3 +46,8 @@ known-by-code rid = go (known rid) (elem rid writable) (elem rid whole-number)
     go true true false = refl
     go true false true = refl
     go true true true = refl
+
+-- a known register's information
+pub info-known : (rid : ℕ) → known rid ≡ true → info-of rid ≡ Known (access-of rid) (data-type-of rid)
+unfolding info-of
+info-known rid e = ap (λ (k : Bool). cond k (Known (access-of rid) (data-type-of rid)) Unknown) e

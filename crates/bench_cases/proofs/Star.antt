@@ -1,0 +1,28 @@
+-- The marked bench cases hold: the checker computes each definition. Assumes nothing.
+use mathlib.Core.Path.{refl}
+use Prim.Native.Nat.{ℕ}
+use lib.Ieee.{div, ofInt, neg, le, sub, mul, add, toUnsigned, round}
+use Rattle.float.specs.Float.{clip}
+use Rattle.motor_core.specs.Model.{limits-of, limit-accepted}
+use Rattle.registers.specs.Registers.{registers, elem, data-type-of}
+use Rattle.registers.specs.Value.{value-of}
+use Rattle.protocol.specs.Codes.{float-to-uint, uint-to-float}
+use Rattle.protocol.specs.Layout.{packed-onto, little-endian, bytes}
+use Rattle.protocol.specs.Command.{mit-cmd, mit-data, frame-for, force-pos-data, scaled, register-read-data, addressed}
+use Rattle.protocol.specs.Feedback.{class, feedback-of, decoded, received, register-value}
+use Rattle.protocol.specs.Status.{status-name}
+use Rattle.bench_cases.specs.Star.{Star}
+
+pub star : Star
+unfolding div ofInt neg le sub mul add toUnsigned clip limits-of limit-accepted registers elem data-type-of value-of float-to-uint uint-to-float packed-onto little-endian bytes mit-cmd mit-data frame-for force-pos-data scaled register-read-data addressed class feedback-of decoded received register-value status-name
+star = record {
+  mit-all-zero = refl;
+  mit-all-at-maximum = refl;
+  feedback-at-minimum = refl;
+  status-one = refl;
+  register-ten = refl;
+  d1-too-high = refl;
+  d3-unknown = refl;
+  read-ten = refl;
+  force-position = refl;
+}

@@ -1,0 +1,44 @@
+-- Document 01's bench cases that are marked to be proved, as equations of the definitions: model 4310, motor 1. `proofs/Star.antt` has their proof.
+use Prim.Native.Nat.{ℕ}
+use mathlib.Core.Path.{_≡_}
+use mathlib.Core.List.{List, [], _∷_}
+use lib.Ieee.{Float, binary32, neg, div}
+use Rattle.motor_core.specs.Model.{from-maxima}
+use Rattle.registers.specs.declared.RegisterValue.the-variants.{UInt32}
+use Rattle.protocol.specs.Codes.{float}
+use Rattle.protocol.specs.Command.{mit-cmd, force-pos-cmd, register-read-cmd}
+use Rattle.protocol.specs.Feedback.{class-of, decoded, received}
+use Rattle.protocol.specs.Status.{status-name}
+use Rattle.protocol.specs.declared.command.Command.the-variants.{Frame}
+use Rattle.protocol.specs.declared.feedback.FrameClass.the-variants as Class
+use Rattle.protocol.specs.declared.feedback.Decoded.the-variants as Decode
+use Rattle.protocol.specs.declared.feedback.Received.the-variants as Receive
+use Rattle.protocol.specs.declared.status.StatusName.the-variants.{Enabled}
+
+-- model 4310's limits: 12.5, 30, 10
+abbrev pub p : Float
+p = div binary32 (float 25) (float 2)
+
+abbrev pub v : Float
+v = float 30
+
+abbrev pub t : Float
+t = float 10
+
+abbrev pub zero : Float
+zero = float 0
+
+abbrev pub frame : ℕ → ℕ → ℕ → ℕ → ℕ → ℕ → ℕ → ℕ → List ℕ
+frame a b c d e f g h = a ∷ (b ∷ (c ∷ (d ∷ (e ∷ (f ∷ (g ∷ (h ∷ [])))))))
+
+pub record Star : Type 0 where
+  pub mit-all-zero : mit-cmd 1 p v t zero zero zero zero zero ≡ Frame 1 0x7FFF_7FF0_0000_07FF
+  pub mit-all-at-maximum : mit-cmd 1 p v t p v (float 500) (float 5) t ≡ Frame 1 0xFFFF_FFFF_FFFF_FFFF
+  pub feedback-at-minimum : decoded p v t (frame 0x11 0x00 0x00 0x00 0x00 0x00 0x1E 0x28)
+      ≡ Decode.Feedback (record { «can_id» = 1; «status_code» = 1; pos = neg p; vel = neg v; torq = neg t; «t_mos» = float 30; «t_rotor» = float 40 })
+  pub status-one : status-name 1 ≡ Enabled
+  pub register-ten : received (from-maxima p v t) (frame 0x11 0x0F 0x33 0x0A 0x01 0x00 0x00 0x00) ≡ Receive.Reply 10 (UInt32 1)
+  pub d1-too-high : class-of (frame 0x11 0x10 0x33 0x0A 0x01 0x00 0x00 0x00) ≡ Class.Feedback
+  pub d3-unknown : class-of (frame 0x11 0x0F 0x33 0x25 0x01 0x00 0x00 0x00) ≡ Class.Feedback
+  pub read-ten : register-read-cmd 1 10 ≡ Frame 0x7FF 0x0100_330A_0000_0000
+  pub force-position : force-pos-cmd 1 0 (float 100) (float 1) ≡ Frame 0x301 0x0000_0000_1027_1027

@@ -1,0 +1,61 @@
+// Bench cases that are run and not proved. Each line is a name and what came out.
+use float::F32Bits;
+use libc::STDOUT_FILENO;
+use protocol::command::Command;
+use protocol::feedback::Decoded;
+
+fn text(words: &[u8]) {
+    io::write_all(STDOUT_FILENO, words);
+}
+
+fn line(name: &[u8], number: u64) {
+    text(name);
+    io::print_hex(STDOUT_FILENO, number, 1);
+    text(b"\n");
+}
+
+// The position code that an MIT frame carries, with the same limit three times.
+fn position_code(limit: F32Bits, position: f32) -> u64 {
+    let max = float::of_bits(limit);
+    let made = protocol::command::mit_cmd(1, max, max, max, position, 0.0, 0.0, 0.0, 0.0);
+    match made {
+        Command::Frame(_, data) => data / 0x1_0000_0000_0000,
+        Command::Refused(n) => n as u64,
+    }
+}
+
+// The position that a code decodes to.
+fn position(limit: F32Bits, d1: u8, d2: u8) -> f32 {
+    let max = float::of_bits(limit);
+    let read = protocol::feedback::decode_feedback(max, max, max, [0, d1, d2, 0, 0, 0, 0, 0]);
+    match read {
+        Decoded::Feedback(f) => f.pos,
+        Decoded::Refused(_) => 0.0,
+    }
+}
+
+fn bits(x: f32) -> u64 {
+    let pattern = float::to_bits(x);
+    pattern.0 as u64
+}
+
+fn main() {
+    // Encoding a decoded code does not always give that code.
+    let decoded = position(F32Bits(0x4148_0000), 0x00, 0x01);
+    line(b"limit 12.5, code 1 decodes to ", bits(decoded));
+    line(
+        b"and encodes again to ",
+        position_code(F32Bits(0x4148_0000), decoded),
+    );
+    // The maximum does not always encode to the largest code.
+    let high = F32Bits(0x3f80_8001);
+    line(
+        b"limit 3F808001 at its maximum encodes to ",
+        position_code(high, float::of_bits(high)),
+    );
+    // A decoded value does not always lie within the limits.
+    line(
+        b"limit 3F808000, code FFFF decodes to ",
+        bits(position(F32Bits(0x3f80_8000), 0xff, 0xff)),
+    );
+}

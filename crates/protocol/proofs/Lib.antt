@@ -1,0 +1,4 @@
+pub mod Widths
+pub mod Packing
+pub mod Classes
+pub mod Range

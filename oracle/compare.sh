@@ -1,0 +1,14 @@
+#!/bin/sh
+# Builds the oracle and compares a drive with it: compare.sh DRIVE [LINES [KINDS [SEED]]]
+# DRIVE is a program that answers the line script from its standard input.
+set -eu
+[ $# -ge 1 ] || { sed -n 2,3p "$0" >&2; exit 2; }
+here=$(cd "$(dirname "$0")" && pwd)
+case $1 in
+    /*) drive=$1 ;;
+    *) drive=$PWD/$1 ;;
+esac
+cargo build --release --offline --quiet --manifest-path "$here/Cargo.toml"
+exec "$here/target/release/oracle" compare --drive "exec '$drive'" \
+    --lines "${2:-1000000}" --kinds "${3:-all}" --seed "${4:-1}" \
+    --keep "$here/target/differs.script"

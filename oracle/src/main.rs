@@ -1,0 +1,112 @@
+//! The original, answering the line script. See README.md.
+
+mod answers;
+mod bus;
+mod compare;
+mod lines;
+mod oracle;
+mod parser;
+mod random;
+mod refusals;
+mod session;
+mod stateless;
+#[cfg(test)]
+mod tests;
+
+use compare::Comparison;
+use oracle::Oracle;
+use std::collections::HashMap;
+use std::io;
+use std::process::ExitCode;
+
+const USAGE: &str = "usage: oracle run < SCRIPT > ANSWERS
+       oracle random --seed S --lines N --kinds LIST --script FILE --answers FILE
+       oracle compare --drive CMD --seed S --lines N --kinds LIST [--chunk N] [--keep FILE]
+kinds: all, stateless, frames-out, frames-in, models, tables, sessions, runs, mode, bad";
+
+fn main() -> ExitCode {
+    let arguments: Vec<String> = std::env::args().skip(1).collect();
+    let (command, rest) = match arguments.split_first() {
+        Some((command, rest)) => (command.as_str(), rest),
+        None => ("", [].as_slice()),
+    };
+    let done = match command {
+        "run" => Options::read(rest, &[]).and_then(|_| run()),
+        "random" => Options::read(rest, &["seed", "lines", "kinds", "script", "answers"])
+            .and_then(|options| random_script(&options)),
+        "compare" => Options::read(rest, &["drive", "seed", "lines", "kinds", "chunk", "keep"])
+            .and_then(|options| compare_with(&options)),
+        _ => Err(USAGE.to_string()),
+    };
+    match done {
+        Ok(()) => ExitCode::SUCCESS,
+        Err(message) => {
+            eprintln!("{message}");
+            ExitCode::FAILURE
+        }
+    }
+}
+
+/// `--name value` pairs.
+struct Options(HashMap<String, String>);
+
+impl Options {
+    fn read(words: &[String], known: &[&str]) -> Result<Self, String> {
+        let mut options = HashMap::new();
+        for pair in words.chunks(2) {
+            let name = pair[0].strip_prefix("--").unwrap_or_default();
+            if pair.len() < 2 || !known.contains(&name) {
+                return Err(USAGE.to_string());
+            }
+            options.insert(name.to_string(), pair[1].clone());
+        }
+        Ok(Options(options))
+    }
+
+    fn text(&self, name: &str) -> Result<&str, String> {
+        self.0
+            .get(name)
+            .map(String::as_str)
+            .ok_or_else(|| format!("--{name} is missing\n{USAGE}"))
+    }
+
+    fn number(&self, name: &str) -> Result<u64, String> {
+        let text = self.text(name)?;
+        text.parse()
+            .map_err(|_| format!("--{name}: '{text}' is no number"))
+    }
+}
+
+fn run() -> Result<(), String> {
+    let mut oracle = Oracle::default();
+    let input = io::BufReader::with_capacity(1 << 17, io::stdin().lock());
+    let output = io::BufWriter::with_capacity(1 << 17, io::stdout().lock());
+    lines::answer_lines(input, output, |line, out| oracle.line(line, out))
+        .map_err(|error| error.to_string())
+}
+
+fn random_script(options: &Options) -> Result<(), String> {
+    let families = random::families(options.text("kinds")?)?;
+    let (script, answers) = (options.text("script")?, options.text("answers")?);
+    let chunk = random::chunk(options.number("seed")?, options.number("lines")?, &families);
+    for (file, bytes) in [(script, &chunk.script), (answers, &chunk.answers)] {
+        std::fs::write(file, bytes).map_err(|error| format!("{file}: {error}"))?;
+    }
+    Ok(())
+}
+
+fn compare_with(options: &Options) -> Result<(), String> {
+    let kinds = options.text("kinds")?.to_string();
+    compare::compare(&Comparison {
+        drive: options.text("drive")?.to_string(),
+        seed: options.number("seed")?,
+        lines: options.number("lines")?,
+        families: random::families(&kinds)?,
+        kinds,
+        chunk: match options.0.contains_key("chunk") {
+            true => options.number("chunk")?,
+            false => 200_000,
+        },
+        keep: options.0.get("keep").cloned(),
+    })
+}
