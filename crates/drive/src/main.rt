@@ -1,6 +1,9 @@
 // Reads the line script on standard input, and writes a line for each call to standard output.
 mod answer;
+mod commands;
+mod fields;
 mod lines;
+mod received;
 
 fn main() {
     let mut input = io::large_buffer();
