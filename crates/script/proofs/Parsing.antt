@@ -8,7 +8,7 @@ use native.Mathlib.Numerals.{add-one}
 use native.Mathlib.Omega.{arith}
 use lib.ListN.{length, getD, take, drop, set, replicate, drop-of-length-le}
 use lib.Seq.{drop-cons}
-use lib.Dec.{leb, eqb, leb·zero}
+use lib.Dec.{leb, eqb}
 use borrow.Author.Tests.{lt-ltb, le-ltb, eq-eqb, ne-eqb}
 use Rattle.script.specs.Number.{fieldOf}
 use Rattle.script.specs.Word.{indexOf, same, split, wordsFrom}
@@ -16,7 +16,7 @@ use Rattle.script.specs.Line.{badCall, noCall, calls, withValue, fieldsO
 use Rattle.script.specs.declared.Read.{Read}
 use Rattle.script.specs.declared.Read.the-variants.{Value, Bad}
 use Rattle.script.specs.declared.Call.{Call}
-use Rattle.script.proofs.Words.{words-none, words-first}
+use Rattle.script.proofs.Words.{words-none, words-first, from-start}
 
 -- ---- the arguments from place i on, with the words from `from` on
 module _ (kinds line : List ℕ) (code from i : ℕ) (args : List ℕ) where
@@ -53,10 +53,6 @@ module _ (kinds line : List ℕ) (code from i : ℕ) (args : List ℕ) where
     right v p = taken (Value v) p
 
 -- ---- the rows of the table from `at` on
-from-start : (s : List ℕ) → split s ≡ wordsFrom s 0
-unfolding wordsFrom
-from-start s = simp (leb·zero (length s))
-
 module _ (table line : List ℕ) (e : ℕ) (q : e ≡ 0 + indexOf 32 (drop 0 line)) where
   pub begun : callOf (split table) (split line) ≡ callFrom (wordsFrom table 0) (take e line) (wordsFrom line (e + 1)) 0
   unfolding callOf

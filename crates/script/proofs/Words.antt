@@ -8,9 +8,9 @@ use native.Mathlib.Numerals.{add-one}
 use native.Mathlib.Omega.{arith}
 use lib.ListN.{length, getD, take, drop, length-drop, drop-of-length-le}
 use lib.Seq.{drop-cons, drop-drop}
-use lib.Dec.{eqb, ltb, leb·suc-suc}
+use lib.Dec.{eqb, ltb, leb·zero, leb·suc-suc}
 use borrow.Author.Tests.{eq-eqb, ne-eqb, lt-ltb, le-leb, lt-leb, ltb-true, ltb-false}
-use Rattle.script.specs.Word.{indexOf, same, split, wordsFrom, longer}
+use Rattle.script.specs.Word.{indexOf, same, split, wordsFrom, longer, second}
 
 pub and-false : (t : Bool) → t && false ≡ false
 and-false true = refl
@@ -120,3 +120,20 @@ words-first s at e h q =
     (split-first (drop at s)
     ∙ ap (λ (m : ℕ). take m (drop at s) ∷ rest-of (drop at s)) long
     ∙ ap (λ (ws : List (List ℕ)). take (e - at) (drop at s) ∷ ws) (rest-by s at e (ltb n (length (drop at s))) h q refl))
+
+pub from-start : (s : List ℕ) → split s ≡ wordsFrom s 0
+unfolding wordsFrom
+from-start s = simp (leb·zero (length s))
+
+module _ (s : List ℕ) (e : ℕ) (q : e ≡ 0 + indexOf 32 (drop 0 s)) where
+  pub second-is : (m : ℕ) → e < length s → m ≡ e + 1 + indexOf 32 (drop (e + 1) s) → second (split s) ≡ take (m - (e + 1)) (drop (e + 1) s)
+  unfolding second
+  second-is m h p =
+      let room : e + 1 ≤ length s = omega arith in
+      rw (from-start s, words-first s 0 e zero-le q, words-first s (e + 1) m room p)
+
+  pub second-none : length s ≤ e → second (split s) ≡ []
+  unfolding second
+  second-none h =
+      let past : length s < e + 1 = omega arith in
+      rw (from-start s, words-first s 0 e zero-le q, words-none s (e + 1) past)

@@ -35,3 +35,8 @@ split (x ∷ rest) = cond (eqb x (code " ")) ([] ∷ split rest) (longer x (spli
 -- the words from a place on; past the end there is none
 unfoldable pub wordsFrom : List ℕ → ℕ → List (List ℕ)
 wordsFrom s at = cond (leb at (length s)) (split (drop at s)) []
+
+unfoldable pub second : List (List ℕ) → List ℕ
+second [] = []
+second (word ∷ []) = []
+second (word ∷ (other ∷ words)) = other

@@ -82,6 +82,7 @@ pub const REGISTER: u64 = 33;
 pub const MATCH: u64 = 34;
 
 pub const SUGGEST: u64 = 35;
+
 // No call: a bad line, and a line that is passed over.
 pub const BAD: u64 = 254;
 
@@ -89,8 +90,43 @@ pub const NOTHING: u64 = 255;
 
 // Each call's word, and a letter for the kind of each argument: f a flag, b 8 bits, i 16, w 32,
 // q 64, n a name.
-const CALLS: [u8; 421] =
-    *b"start-limits iiwww start-model nii get-u32 bq get-f32 bq write-u32 bw write-f32 bw fresh-state q store  mode wq clock q sent  send-timeout  send-failed  slept  frame qwqbf frame-lent qwqbf accepts wqbf patch bbb session  mit iwwwwwwww pos-vel iww vel iw force-pos iwww read-reg ib write-reg ibw store-params i feedback-request i disable i zero i clear i decode wwwq sort q status-name b register b match wwww suggest wwwq";
+const CALLS: [u8; 421] = *b"\
+    start-limits iiwww \
+    start-model nii \
+    get-u32 bq \
+    get-f32 bq \
+    write-u32 bw \
+    write-f32 bw \
+    fresh-state q \
+    store  \
+    mode wq \
+    clock q \
+    sent  \
+    send-timeout  \
+    send-failed  \
+    slept  \
+    frame qwqbf \
+    frame-lent qwqbf \
+    accepts wqbf \
+    patch bbb \
+    session  \
+    mit iwwwwwwww \
+    pos-vel iww \
+    vel iw \
+    force-pos iwww \
+    read-reg ib \
+    write-reg ibw \
+    store-params i \
+    feedback-request i \
+    disable i \
+    zero i \
+    clear i \
+    decode wwwq \
+    sort q \
+    status-name b \
+    register b \
+    match wwww \
+    suggest wwwq";
 
 // A code with no arguments.
 fn bare(code: u64) -> Call

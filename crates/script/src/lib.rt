@@ -8,7 +8,7 @@ pub use numbers::number;
 ghost use mathlib.Core.Path.{_≡_};
 ghost use Prim.Native.Nat.{_+_};
 ghost use lib.ListN.{drop};
-ghost use Rattle.script.specs.Word.{indexOf, same};
+ghost use Rattle.script.specs.Word.{indexOf, same, split, second};
 
 // The bytes that a line may have.
 pub const MAX_LINE: usize = 4095;
@@ -53,4 +53,18 @@ pub fn same_bytes(a: &[u8], b: &[u8]) -> bool
         i += 1;
     }
     true
+}
+
+// The word after the first: the name in a line of `start-model`. Empty where there is none.
+pub fn second_word(line: &[u8]) -> &[u8]
+    ensures { λ r. ⌜ now r ≡ second (split (now (line .entry))) ⌝ }
+{
+    let first = index_of(line, 0, b' ');
+    if first < line.len() {
+        let from = first + 1;
+        let end = index_of(line, from, b' ');
+        &line[from..end]
+    } else {
+        &line[0..0]
+    }
 }

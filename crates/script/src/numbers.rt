@@ -6,7 +6,7 @@ ghost use lib.ListN.{drop};
 ghost use Rattle.script.specs.Number.{digitOf, digitsOf, numberOf, limitOf, fieldOf};
 
 // The value of a decimal or hexadecimal digit, or 16.
-pub fn digit(b: u8) -> u64
+fn digit(b: u8) -> u64
     ensures { λ r. ⌜ r ≡ digitOf b ⌝ }
 {
     match b {
@@ -58,7 +58,7 @@ pub fn number(word: &[u8]) -> Read
 }
 
 // The largest number of a field of this kind.
-pub fn limit(kind: u8) -> u64
+fn limit(kind: u8) -> u64
     ensures { λ r. ⌜ r ≡ limitOf kind ⌝ }
 {
     match kind {
