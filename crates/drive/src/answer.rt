@@ -1,6 +1,6 @@
 // The answer to a line, put into the output with its newline.
 use crate::commands;
-use crate::received;
+use crate::reports;
 use script::Call;
 use script::calls;
 use text::put;
@@ -30,7 +30,7 @@ fn answer(call: Call, output: &mut [u8], to: usize) -> usize {
         }
         calls::GET_U32..=calls::SESSION => put(output, to, b"no session"),
         calls::MIT..=calls::CLEAR => commands::put_command(commands::made(call), output, to),
-        _ => received::answer(call, output, to),
+        _ => reports::answer(call, output, to),
     }
 }
 

@@ -4,8 +4,7 @@ use crate::fields::low8;
 use crate::fields::low16;
 use crate::fields::low32;
 use crate::fields::real;
-use protocol::command;
-use protocol::command::Command;
+use frame::Command;
 use script::Call;
 use script::calls;
 use text::put;
@@ -19,22 +18,22 @@ pub(crate) fn made(call: Call) -> Command {
     let motor_id = low16(a[0]);
     match code {
         calls::MIT => mit(call),
-        calls::POS_VEL => command::pos_vel_cmd(motor_id, bits(a[1]), bits(a[2])),
-        calls::VEL => command::vel_cmd(motor_id, bits(a[1])),
-        calls::FORCE_POS => command::force_pos_cmd(motor_id, bits(a[1]), real(a[2]), real(a[3])),
-        calls::READ_REG => command::register_read_cmd(motor_id, low8(a[1])),
-        calls::WRITE_REG => command::register_write_cmd(motor_id, low8(a[1]), low32(a[2])),
-        calls::STORE_PARAMS => command::store_params_cmd(motor_id),
-        calls::FEEDBACK_REQUEST => command::feedback_request_cmd(motor_id),
-        calls::DISABLE => command::disable_cmd(motor_id),
-        calls::ZERO => command::set_zero_cmd(motor_id),
-        _ => command::clear_error_cmd(motor_id),
+        calls::POS_VEL => setpoint::pos_vel_cmd(motor_id, bits(a[1]), bits(a[2])),
+        calls::VEL => setpoint::vel_cmd(motor_id, bits(a[1])),
+        calls::FORCE_POS => setpoint::force_pos_cmd(motor_id, bits(a[1]), real(a[2]), real(a[3])),
+        calls::READ_REG => request::register_read_cmd(motor_id, low8(a[1])),
+        calls::WRITE_REG => request::register_write_cmd(motor_id, low8(a[1]), low32(a[2])),
+        calls::STORE_PARAMS => request::store_params_cmd(motor_id),
+        calls::FEEDBACK_REQUEST => request::feedback_request_cmd(motor_id),
+        calls::DISABLE => request::disable_cmd(motor_id),
+        calls::ZERO => request::set_zero_cmd(motor_id),
+        _ => request::clear_error_cmd(motor_id),
     }
 }
 
 fn mit(call: Call) -> Command {
     let a = call.args;
-    command::mit_cmd(
+    setpoint::mit_cmd(
         low16(a[0]),
         real(a[1]),
         real(a[2]),

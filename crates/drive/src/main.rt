@@ -3,7 +3,7 @@ mod answer;
 mod commands;
 mod fields;
 mod lines;
-mod received;
+mod reports;
 
 fn main() {
     let mut input = io::large_buffer();
