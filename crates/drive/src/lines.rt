@@ -67,7 +67,7 @@ fn whole_lines(chunk: &[u8], is_long: bool, output: &mut [u8], to: usize) -> Pro
     let mut long = is_long;
     let mut at = to;
     while from < chunk.len() {
-        let end = script::index_of(chunk, from, b'\n');
+        let end = words::index_of(chunk, from, b'\n');
         if end >= chunk.len() {
             break;
         }

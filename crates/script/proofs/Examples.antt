@@ -2,8 +2,8 @@
 use Prim.Native.String.{String}
 use mathlib.Core.Path.{_≡_, refl}
 use mathlib.Core.List.{List, [], _∷_}
-use Rattle.script.specs.Number.{digitOf, allDigits, valueOf, digitsAfter, digitsOf, numberOf, limitOf, atMost, nameOf, fieldOf}
-use Rattle.script.specs.Word.{bytes, indexOf, same, split}
+use Rattle.words.specs.Number.{digitOf, allDigits, valueOf, digitsAfter, digitsOf, numberOf, limitOf, atMost, nameOf, fieldOf}
+use Rattle.words.specs.Word.{bytes, indexOf, same, split}
 use Rattle.script.specs.Line.{calls, plain, badCall, noCall, fieldsOf, callFrom, callOf, parsed}
 use Rattle.script.specs.declared.Call.{Call}
 

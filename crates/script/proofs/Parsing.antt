@@ -10,13 +10,13 @@ use lib.ListN.{length, getD, take, drop, set, replicate, drop-of-length-le}
 use lib.Seq.{drop-cons}
 use lib.Dec.{leb, eqb}
 use borrow.Author.Tests.{lt-ltb, le-ltb, eq-eqb, ne-eqb}
-use Rattle.script.specs.Number.{fieldOf}
-use Rattle.script.specs.Word.{indexOf, same, split, wordsFrom}
+use Rattle.words.specs.Number.{fieldOf}
+use Rattle.words.specs.Word.{indexOf, same, split, wordsFrom}
 use Rattle.script.specs.Line.{badCall, noCall, calls, withValue, fieldsOf, callFrom, callOf, has, passedOver, parsed}
-use Rattle.script.specs.declared.Read.{Read}
-use Rattle.script.specs.declared.Read.the-variants.{Value, Bad}
+use Rattle.words.specs.declared.Read.{Read}
+use Rattle.words.specs.declared.Read.the-variants.{Value, Bad}
 use Rattle.script.specs.declared.Call.{Call}
-use Rattle.script.proofs.Words.{words-none, words-first, from-start}
+use Rattle.words.proofs.Words.{words-none, words-first, from-start}
 
 -- ---- the arguments from place i on, with the words from `from` on
 module _ (kinds line : List ℕ) (code from i : ℕ) (args : List ℕ) where

@@ -6,10 +6,10 @@ use mathlib.Core.Bool.{Bool, true, false, cond, _||_}
 use mathlib.Core.List.{List, [], _∷_}
 use lib.ListN.{length, set, replicate}
 use lib.Dec.{ltb, eqb}
-use Rattle.script.specs.Number.{fieldOf}
-use Rattle.script.specs.Word.{bytes, indexOf, same, split}
-use Rattle.script.specs.declared.Read.{Read}
-use Rattle.script.specs.declared.Read.the-variants.{Value, Bad}
+use Rattle.words.specs.Number.{fieldOf}
+use Rattle.words.specs.Word.{bytes, indexOf, same, split}
+use Rattle.words.specs.declared.Read.{Read}
+use Rattle.words.specs.declared.Read.the-variants.{Value, Bad}
 use Rattle.script.specs.declared.Call.{Call}
 
 abbrev pub row : String → String → List (List ℕ) → List (List ℕ)

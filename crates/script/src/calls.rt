@@ -1,13 +1,13 @@
 // A line as a call, by a table of the calls' words and the kinds of their arguments.
 use crate::Call;
 use crate::MAX_LINE;
-use crate::Read;
-use crate::index_of;
-use crate::numbers::field;
-use crate::same_bytes;
+use words::Read;
+use words::field;
+use words::index_of;
+use words::same_bytes;
 ghost use mathlib.Core.Path.{_≡_};
 ghost use lib.ListN.{replicate};
-ghost use Rattle.script.specs.Word.{split, wordsFrom};
+ghost use Rattle.words.specs.Word.{split, wordsFrom};
 ghost use Rattle.script.specs.Line.{plain, fieldsOf, callOf, parsed};
 
 // A call's code is its row's place in the table.

@@ -6,9 +6,9 @@ use mathlib.Core.List.{List}
 use lib.ListN.{length, take, drop}
 use lib.Seq.{length-take-le}
 use borrow.Author.Needs.{needs}
-use Rattle.script.specs.Word.{split, wordsFrom}
+use Rattle.words.specs.Word.{split, wordsFrom}
 use Rattle.script.specs.Line.{callFrom, callOf}
-use Rattle.script.proofs.Words.{end-le}
+use Rattle.words.proofs.Words.{end-le}
 use Rattle.script.proofs.Parsing.{begun, ended, half, found, passed}
 use Rattle.script.proofs.calls.call_by.Statement.{statement}
 use Rattle.script.proofs.calls.call_by.Tie as tie

@@ -4,9 +4,9 @@ use mathlib.Core.Path.{_≡_, refl, sym, _∙_}
 use native.Mathlib.Omega.{arith}
 use lib.ListN.{length, drop, replicate, length-set}
 use borrow.Author.Needs.{needs}
-use Rattle.script.specs.Word.{wordsFrom}
+use Rattle.words.specs.Word.{wordsFrom}
 use Rattle.script.specs.Line.{fieldsOf}
-use Rattle.script.proofs.Words.{end-le}
+use Rattle.words.proofs.Words.{end-le}
 use Rattle.script.proofs.Parsing.{missing, whole, extra, many, wrong, right}
 use Rattle.script.proofs.calls.fields.Statement.{statement}
 use Rattle.script.proofs.calls.fields.Tie as tie

@@ -2,7 +2,7 @@
 use mathlib.Core.Path.{sym, _∙_}
 use native.Mathlib.Omega.{arith}
 use borrow.Author.Needs.{needs}
-use Rattle.script.specs.Word.{bytes, split}
+use Rattle.words.specs.Word.{bytes, split}
 use Rattle.script.specs.Line.{calls}
 use Rattle.script.proofs.Parsing.{too-long, nothing, comment, tabbed, returned, called}
 use Rattle.script.proofs.calls.parse.Statement.{statement}

@@ -1,13 +1,13 @@
--- `script::numbers::digits` meets its contract. The invariant: the digits from `from` on are the digits from i on after those passed, whose value fits. Assumes nothing.
+-- `words::numbers::digits` meets its contract. The invariant: the digits from `from` on are the digits from i on after those passed, whose value fits. Assumes nothing.
 use Prim.Native.Nat.{ℕ, _+_, _-_, _*_, _≤_, _<_, _^_}
 use mathlib.Core.Path.{_≡_, sym, ap, _∙_}
 use native.Mathlib.Omega.{arith}
 use lib.ListN.{length, drop}
 use borrow.Author.Needs.{needs}
-use Rattle.script.specs.Number.{digitsOf, digitsAfter}
-use Rattle.script.proofs.Digits.{empty, first, not-digit, too-large, next, last, room, past}
-use Rattle.script.proofs.numbers.digits.Statement.{statement}
-use Rattle.script.proofs.numbers.digits.Tie as tie
+use Rattle.words.specs.Number.{digitsOf, digitsAfter}
+use Rattle.words.proofs.Digits.{empty, first, not-digit, too-large, next, last, room, past}
+use Rattle.words.proofs.numbers.digits.Statement.{statement}
+use Rattle.words.proofs.numbers.digits.Tie as tie
 
 abbrev Inv-loop : tie.InvT-loop
 Inv-loop word from base i₀ value₀ i value = (digitsOf base (drop from word) ≡ digitsAfter base value (drop i word)) × (value < 2 ^ 64)

@@ -1,9 +1,9 @@
--- `script::numbers::limit` meets its contract: each letter has its line of `limitOf`. Assumes nothing.
+-- `words::numbers::limit` meets its contract: each letter has its line of `limitOf`. Assumes nothing.
 use mathlib.Core.Path.{sym, ap}
 use borrow.Author.Tests.{ne-eqb}
-use Rattle.script.specs.Number.{limitOf}
-use Rattle.script.proofs.numbers.limit.Statement.{statement}
-use Rattle.script.proofs.numbers.limit.Tie as tie
+use Rattle.words.specs.Number.{limitOf}
+use Rattle.words.proofs.numbers.limit.Statement.{statement}
+use Rattle.words.proofs.numbers.limit.Tie as tie
 
 returns : tie.Need-returns
 unfolding limitOf

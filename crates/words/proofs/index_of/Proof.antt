@@ -1,13 +1,13 @@
--- `script::index_of` meets its contract. The invariant: the first place of the byte from `from` on is that from i on. Assumes nothing.
+-- `words::index_of` meets its contract. The invariant: the first place of the byte from `from` on is that from i on. Assumes nothing.
 use Prim.Native.Nat.{_+_, _-_, _≤_}
 use mathlib.Core.Path.{_≡_, refl, sym, _∙_}
 use native.Mathlib.Omega.{arith}
 use lib.ListN.{length, drop}
 use borrow.Author.Needs.{needs}
-use Rattle.script.specs.Word.{indexOf}
-use Rattle.script.proofs.Words.{hit, miss, none}
-use Rattle.script.proofs.index_of.Statement.{statement}
-use Rattle.script.proofs.index_of.Tie as tie
+use Rattle.words.specs.Word.{indexOf}
+use Rattle.words.proofs.Words.{hit, miss, none}
+use Rattle.words.proofs.index_of.Statement.{statement}
+use Rattle.words.proofs.index_of.Tie as tie
 
 abbrev Inv-loop : tie.InvT-loop
 Inv-loop s from byte i₀ i = from + indexOf byte (drop from s) ≡ i + indexOf byte (drop i s)

@@ -10,7 +10,7 @@ use lib.ListN.{length, getD, take, drop, length-drop, drop-of-length-le}
 use lib.Seq.{drop-cons, drop-drop}
 use lib.Dec.{eqb, ltb, leb·zero, leb·suc-suc}
 use borrow.Author.Tests.{eq-eqb, ne-eqb, lt-ltb, le-leb, lt-leb, ltb-true, ltb-false}
-use Rattle.script.specs.Word.{indexOf, same, split, wordsFrom, longer, second}
+use Rattle.words.specs.Word.{indexOf, same, split, wordsFrom, longer, second}
 
 pub and-false : (t : Bool) → t && false ≡ false
 and-false true = refl

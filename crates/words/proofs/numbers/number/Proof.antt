@@ -1,10 +1,10 @@
--- `script::numbers::number` meets its contract: the tests tell `0x` from the rest. Assumes nothing.
+-- `words::numbers::number` meets its contract: the tests tell `0x` from the rest. Assumes nothing.
 use mathlib.Core.Path.{sym, _∙_}
 use native.Mathlib.Omega.{arith}
 use borrow.Author.Needs.{needs}
-use Rattle.script.proofs.Fields.{short, not-zero, not-x, zero-x}
-use Rattle.script.proofs.numbers.number.Statement.{statement}
-use Rattle.script.proofs.numbers.number.Tie as tie
+use Rattle.words.proofs.Fields.{short, not-zero, not-x, zero-x}
+use Rattle.words.proofs.numbers.number.Statement.{statement}
+use Rattle.words.proofs.numbers.number.Tie as tie
 
 digits-requires : tie.Need-digits-requires
 digits-requires c κs = search needs

@@ -10,10 +10,10 @@ use lib.ListN.{length, getD, drop, drop-of-length-le}
 use lib.Seq.{drop-cons}
 use lib.Dec.{ltb}
 use borrow.Author.Tests.{le-leb, lt-leb, lt-ltb, le-ltb}
-use Rattle.script.specs.Number.{between, digitOf, allDigits, valueOf, digitsAfter, digitsOf}
-use Rattle.script.specs.declared.Read.{Read}
-use Rattle.script.specs.declared.Read.the-variants.{Value, Bad}
-use Rattle.script.proofs.Words.{and-false}
+use Rattle.words.specs.Number.{between, digitOf, allDigits, valueOf, digitsAfter, digitsOf}
+use Rattle.words.specs.declared.Read.{Read}
+use Rattle.words.specs.declared.Read.the-variants.{Value, Bad}
+use Rattle.words.proofs.Words.{and-false}
 
 -- ---- a digit, by the range that it lies in
 pub decimal : (b : ℕ) → 48 ≤ b → b ≤ 57 → digitOf b ≡ b - 48

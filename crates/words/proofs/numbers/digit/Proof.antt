@@ -1,10 +1,10 @@
--- `script::numbers::digit` meets its contract: `proofs/Digits.antt` has each range of bytes. Assumes nothing.
+-- `words::numbers::digit` meets its contract: `proofs/Digits.antt` has each range of bytes. Assumes nothing.
 use mathlib.Core.Path.{sym}
 use native.Mathlib.Omega.{arith}
 use borrow.Author.Needs.{needs}
-use Rattle.script.proofs.Digits.{decimal, capital, small, before, amid, amid-2, after}
-use Rattle.script.proofs.numbers.digit.Statement.{statement}
-use Rattle.script.proofs.numbers.digit.Tie as tie
+use Rattle.words.proofs.Digits.{decimal, capital, small, before, amid, amid-2, after}
+use Rattle.words.proofs.numbers.digit.Statement.{statement}
+use Rattle.words.proofs.numbers.digit.Tie as tie
 
 cast-result : tie.Need-cast-result
 cast-result c = search needs

@@ -5,10 +5,10 @@ use mathlib.Core.List.{List, [], _∷_}
 use native.Mathlib.Nat.{le-of-eq, not-suc-le-zero, le-of-suc-le-suc}
 use lib.ListN.{length, getD, drop}
 use borrow.Author.Tests.{eq-eqb, ne-eqb, le-leb, lt-leb}
-use Rattle.script.specs.Number.{digitsOf, numberOf, limitOf, atMost, nameOf, fieldOf}
-use Rattle.script.specs.declared.Read.{Read}
-use Rattle.script.specs.declared.Read.the-variants.{Value, Bad}
-use Rattle.script.proofs.Words.{and-false}
+use Rattle.words.specs.Number.{digitsOf, numberOf, limitOf, atMost, nameOf, fieldOf}
+use Rattle.words.specs.declared.Read.{Read}
+use Rattle.words.specs.declared.Read.the-variants.{Value, Bad}
+use Rattle.words.proofs.Words.{and-false}
 
 -- ---- decimal or hexadecimal
 pub short : (s : List ℕ) → length s < 2 → numberOf s ≡ digitsOf 10 s

@@ -1,10 +1,10 @@
--- `script::numbers::field` meets its contract, by the kind, the word's number and the limit. Assumes nothing.
+-- `words::numbers::field` meets its contract, by the kind, the word's number and the limit. Assumes nothing.
 use mathlib.Core.Path.{sym, _∙_}
 use native.Mathlib.Omega.{arith}
 use borrow.Author.Needs.{needs}
-use Rattle.script.proofs.Fields.{no-name, a-name, within, beyond, no-number}
-use Rattle.script.proofs.numbers.field.Statement.{statement}
-use Rattle.script.proofs.numbers.field.Tie as tie
+use Rattle.words.proofs.Fields.{no-name, a-name, within, beyond, no-number}
+use Rattle.words.proofs.numbers.field.Statement.{statement}
+use Rattle.words.proofs.numbers.field.Tie as tie
 
 returns : tie.Need-returns
 returns c =

@@ -3,7 +3,7 @@ use crate::Read;
 ghost use mathlib.Core.Path.{_≡_};
 ghost use Prim.Native.Nat.{_<_};
 ghost use lib.ListN.{drop};
-ghost use Rattle.script.specs.Number.{digitOf, digitsOf, numberOf, limitOf, fieldOf};
+ghost use Rattle.words.specs.Number.{digitOf, digitsOf, numberOf, limitOf, fieldOf};
 
 // The value of a decimal or hexadecimal digit, or 16.
 fn digit(b: u8) -> u64

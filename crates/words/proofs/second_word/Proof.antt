@@ -1,11 +1,11 @@
--- `script::second_word` meets its contract: the two places are the ends of the first two words. Assumes nothing.
+-- `words::second_word` meets its contract: the two places are the ends of the first two words. Assumes nothing.
 use Prim.Native.Nat.{_+_}
 use mathlib.Core.Path.{sym}
 use native.Mathlib.Omega.{arith}
 use borrow.Author.Needs.{needs}
-use Rattle.script.proofs.Words.{end-le, second-is, second-none}
-use Rattle.script.proofs.second_word.Statement.{statement}
-use Rattle.script.proofs.second_word.Tie as tie
+use Rattle.words.proofs.Words.{end-le, second-is, second-none}
+use Rattle.words.proofs.second_word.Statement.{statement}
+use Rattle.words.proofs.second_word.Tie as tie
 
 index-of-requires : tie.Need-index-of-requires
 index-of-requires c κs = search needs
