@@ -190,6 +190,7 @@ fn call_by(table: &[u8], line: &[u8]) -> Call
     bare(BAD)
 }
 
+// A line as a call, or `BAD`, or `NOTHING` where it is passed over.
 pub fn parse(line: &[u8]) -> Call
     ensures { λ r. ⌜ r ≡ parsed (now (line .entry)) ⌝ }
 {

@@ -28,6 +28,7 @@ pub fn index_of(s: &[u8], from: usize, byte: u8) -> usize
     i
 }
 
+// Whether the two are of one length and the same byte for byte.
 pub fn same_bytes(a: &[u8], b: &[u8]) -> bool
     ensures { λ r. ⌜ r ≡ same (now (a .entry)) (now (b .entry)) ⌝ }
 {
