@@ -7,13 +7,14 @@ use mathlib.Core.List.{List, [], _∷_}
 use lib.ListN.{length, set, replicate}
 use lib.Dec.{ltb, eqb}
 use Rattle.words.specs.Number.{fieldOf}
-use Rattle.words.specs.Word.{bytes, indexOf, same, split}
+use Rattle.text.specs.Ascii.{ascii}
+use Rattle.words.specs.Word.{indexOf, same, split}
 use Rattle.words.specs.declared.Read.{Read}
 use Rattle.words.specs.declared.Read.the-variants.{Value, Bad}
 use Rattle.script.specs.declared.Call.{Call}
 
 abbrev pub row : String → String → List (List ℕ) → List (List ℕ)
-row name kinds rows = bytes name ∷ (bytes kinds ∷ rows)
+row name kinds rows = ascii name ∷ (ascii kinds ∷ rows)
 
 -- each call's word, and a letter for the kind of each argument; a call's code is its place here
 unfoldable pub calls : List (List ℕ)
@@ -97,7 +98,7 @@ abbrev pub passedOver : List ℕ → Bool
 passedOver [] = true
 passedOver (b ∷ rest) = eqb b (code "#")
 
--- a line of more than 4,095 bytes is bad whatever it begins with; so is one with a tab or a carriage return that is not passed over
+-- a line of more than 4,095 ascii is bad whatever it begins with; so is one with a tab or a carriage return that is not passed over
 unfoldable pub parsed : List ℕ → Call
 parsed line =
     cond (ltb 4095 (length line)) badCall

@@ -1,16 +1,10 @@
 -- The words of a line: what stands between its spaces. Two spaces in a row, or one at either end, make an empty word.
 use Prim.Native.Nat.{ℕ, zero, suc}
 use Prim.Native.Char.{code}
-use Prim.Native.String.{String, [] as end, _∷_ as _then_}
 use mathlib.Core.Bool.{Bool, true, false, cond, _&&_}
 use mathlib.Core.List.{List, [], _∷_}
 use lib.ListN.{length, drop}
 use lib.Dec.{leb, eqb}
-
--- a text's bytes, where it is ASCII
-unfoldable pub bytes : String → List ℕ
-bytes end = []
-bytes (c then s) = code c ∷ bytes s
 
 -- the index of the first b, or the length where there is none
 unfoldable pub indexOf : ℕ → List ℕ → ℕ

@@ -2,7 +2,8 @@
 use mathlib.Core.Path.{sym, _∙_}
 use native.Mathlib.Omega.{arith}
 use borrow.Author.Needs.{needs}
-use Rattle.words.specs.Word.{bytes, split}
+use Rattle.text.specs.Ascii.{ascii}
+use Rattle.words.specs.Word.{split}
 use Rattle.script.specs.Line.{calls}
 use Rattle.script.proofs.Parsing.{too-long, nothing, comment, tabbed, returned, called}
 use Rattle.script.proofs.calls.parse.Statement.{statement}
@@ -73,7 +74,7 @@ call-by-requires : tie.Need-call-by-requires
 call-by-requires c κs = search needs
 
 returns-6 : tie.Need-returns-6
-unfolding split bytes calls
+unfolding split ascii calls
 returns-6 c =
     let a = c .before .before .before .before .before .before .before .before .before .before .before .args in
     let s = a .line .now in
