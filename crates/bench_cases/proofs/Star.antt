@@ -6,11 +6,13 @@ use Rattle.float.specs.Float.{clip}
 use Rattle.motor_core.specs.Model.{limits-of, limit-accepted}
 use Rattle.registers.specs.Registers.{registers, elem, data-type-of}
 use Rattle.registers.specs.Value.{value-of}
-use Rattle.protocol.specs.Codes.{float-to-uint, uint-to-float}
-use Rattle.protocol.specs.Layout.{packed-onto, little-endian, bytes}
-use Rattle.protocol.specs.Command.{mit-cmd, mit-data, frame-for, force-pos-data, scaled, register-read-data, addressed}
-use Rattle.protocol.specs.Feedback.{class, feedback-of, decoded, received, register-value}
-use Rattle.protocol.specs.Status.{status-name}
+use Rattle.frame.specs.Codes.{float-to-uint, uint-to-float}
+use Rattle.frame.specs.Layout.{packed-onto, little-endian, bytes}
+use Rattle.frame.specs.Command.{frame-for}
+use Rattle.setpoint.specs.Setpoint.{mit-cmd, mit-data, force-pos-data, scaled}
+use Rattle.request.specs.Request.{register-read-data, addressed}
+use Rattle.received.specs.Received.{class, feedback-of, decoded, received, register-value}
+use Rattle.received.specs.Status.{status-name}
 use Rattle.bench_cases.specs.Star.{Star}
 
 pub star : Star

@@ -5,15 +5,16 @@ use mathlib.Core.List.{List, [], _∷_}
 use lib.Ieee.{Float, binary32, neg, div}
 use Rattle.motor_core.specs.Model.{from-maxima}
 use Rattle.registers.specs.declared.RegisterValue.the-variants.{UInt32}
-use Rattle.protocol.specs.Codes.{float}
-use Rattle.protocol.specs.Command.{mit-cmd, force-pos-cmd, register-read-cmd}
-use Rattle.protocol.specs.Feedback.{class-of, decoded, received}
-use Rattle.protocol.specs.Status.{status-name}
-use Rattle.protocol.specs.declared.command.Command.the-variants.{Frame}
-use Rattle.protocol.specs.declared.feedback.FrameClass.the-variants as Class
-use Rattle.protocol.specs.declared.feedback.Decoded.the-variants as Decode
-use Rattle.protocol.specs.declared.feedback.Received.the-variants as Receive
-use Rattle.protocol.specs.declared.status.StatusName.the-variants.{Enabled}
+use Rattle.frame.specs.Codes.{float}
+use Rattle.setpoint.specs.Setpoint.{mit-cmd, force-pos-cmd}
+use Rattle.request.specs.Request.{register-read-cmd}
+use Rattle.received.specs.Received.{class-of, decoded, received}
+use Rattle.received.specs.Status.{status-name}
+use Rattle.frame.specs.declared.Command.the-variants.{Frame}
+use Rattle.received.specs.declared.feedback.FrameClass.the-variants as Class
+use Rattle.received.specs.declared.feedback.Decoded.the-variants as Decode
+use Rattle.received.specs.declared.feedback.Received.the-variants as Receive
+use Rattle.received.specs.declared.status.StatusName.the-variants.{Enabled}
 
 -- model 4310's limits: 12.5, 30, 10
 abbrev pub p : Float

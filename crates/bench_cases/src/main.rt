@@ -1,8 +1,8 @@
 // Bench cases that are run and not proved. Each line is a name and what came out.
 use float::F32Bits;
+use frame::Command;
 use libc::STDOUT_FILENO;
-use protocol::command::Command;
-use protocol::feedback::Decoded;
+use received::feedback::Decoded;
 
 fn text(words: &[u8]) {
     io::write_all(STDOUT_FILENO, words);
@@ -17,7 +17,7 @@ fn line(name: &[u8], number: u64) {
 // The position code that an MIT frame carries, with the same limit three times.
 fn position_code(limit: F32Bits, position: f32) -> u64 {
     let max = float::of_bits(limit);
-    let made = protocol::command::mit_cmd(1, max, max, max, position, 0.0, 0.0, 0.0, 0.0);
+    let made = setpoint::mit_cmd(1, max, max, max, position, 0.0, 0.0, 0.0, 0.0);
     match made {
         Command::Frame(_, data) => data / 0x1_0000_0000_0000,
         Command::Refused(n) => n as u64,
@@ -27,7 +27,7 @@ fn position_code(limit: F32Bits, position: f32) -> u64 {
 // The position that a code decodes to.
 fn position(limit: F32Bits, d1: u8, d2: u8) -> f32 {
     let max = float::of_bits(limit);
-    let read = protocol::feedback::decode_feedback(max, max, max, [0, d1, d2, 0, 0, 0, 0, 0]);
+    let read = received::feedback::decode_feedback(max, max, max, [0, d1, d2, 0, 0, 0, 0, 0]);
     match read {
         Decoded::Feedback(f) => f.pos,
         Decoded::Refused(_) => 0.0,

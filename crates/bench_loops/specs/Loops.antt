@@ -1,16 +1,16 @@
--- What the benchmark's loops return, over the protocol's own definitions. Definitions only.
+-- What the benchmark's loops return, over the library's own definitions. Definitions only.
 use Prim.Native.Nat.{ℕ, zero, suc, _+_, _*_, _/_, _%_, _^_}
 use mathlib.Core.List.{List, [], _∷_}
 use lib.ListN.{length, getD}
 use lib.Ieee.{Float, nan, binary32, div}
 use Rattle.motor_core.specs.Model.{from-maxima}
 use Rattle.motor_core.specs.declared.model.PvTLimits.{PvTLimits}
-use Rattle.protocol.specs.Codes.{float, _⊕_}
-use Rattle.protocol.specs.Command.{mit-data}
-use Rattle.protocol.specs.Feedback.{class-of, feedback-of}
-use Rattle.protocol.specs.declared.feedback.FrameClass.{FrameClass}
-use Rattle.protocol.specs.declared.feedback.FrameClass.the-variants.{Reply, Ack, Feedback}
-use Rattle.protocol.specs.declared.feedback.SensorFeedback.{SensorFeedback}
+use Rattle.frame.specs.Codes.{float, _⊕_}
+use Rattle.setpoint.specs.Setpoint.{mit-data}
+use Rattle.received.specs.Received.{class-of, feedback-of}
+use Rattle.received.specs.declared.feedback.FrameClass.{FrameClass}
+use Rattle.received.specs.declared.feedback.FrameClass.the-variants.{Reply, Ack, Feedback}
+use Rattle.received.specs.declared.feedback.SensorFeedback.{SensorFeedback}
 
 -- f at 0, 1, .., n - 1, added up in this order
 unfoldable pub total : {A : Type 0} → (A → A → A) → A → (ℕ → A) → ℕ → A

@@ -3,12 +3,12 @@
 ghost use mathlib.Core.Path.{_≡_};
 ghost use Prim.Native.Nat.{_+_, _*_, _≤_};
 ghost use lib.ListN.{length};
-ghost use Rattle.protocol.specs.Codes.{float};
+ghost use Rattle.frame.specs.Codes.{float};
 ghost use Rattle.bench_loops.specs.Loops as Spec;
 use motor_core::model::Limits;
 use motor_core::model::PvTLimits;
-use protocol::feedback::FrameClass;
-use protocol::feedback::SensorFeedback;
+use received::feedback::FrameClass;
+use received::feedback::SensorFeedback;
 
 fn small(number: u8) -> f32
     ensures { λ r. ⌜ r ≡ float number ⌝ }
@@ -54,7 +54,7 @@ fn setpoint_data(xs: &[f32], at: usize, limits: PvTLimits) -> u64
     requires { ⌜ at + 5 ≤ length (now xs) ⌝ }
     ensures { λ r. ⌜ r ≡ Spec.setpoint-data limits (now (xs .entry)) at ⌝ }
 {
-    protocol::command::encode_mit_cmd(
+    setpoint::encode_mit_cmd(
         xs[at],
         xs[at + 1],
         xs[at + 2],
@@ -82,7 +82,7 @@ fn feedback_total(frames: &[u8], limits: PvTLimits) -> f32
     let count = frames.len() / 8;
     for k in 0..count {
         let data = frame_at(frames, k * 8);
-        sum = sum + reading(protocol::feedback::decode_sensor_feedback(data, limits));
+        sum = sum + reading(received::feedback::decode_sensor_feedback(data, limits));
     }
     sum
 }
@@ -119,7 +119,7 @@ pub extern "C" fn bench_loops_sort(frames: &[u8]) -> u64
     let mut sum: u64 = 0;
     let count = frames.len() / 8;
     for k in 0..count {
-        let class = protocol::feedback::frame_class(frame_at(frames, k * 8));
+        let class = received::feedback::frame_class(frame_at(frames, k * 8));
         sum = std::num::wrapping_add_u64(sum, weight(class));
     }
     sum

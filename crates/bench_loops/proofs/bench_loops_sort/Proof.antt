@@ -3,7 +3,7 @@ use mathlib.Core.List.{List}
 use Prim.Native.Nat.{ℕ, _≤_, _-_, _*_, _/_}
 use lib.ListN.{length}
 use borrow.Author.Needs.{needs}
-use Rattle.protocol.specs.Feedback.{class-of}
+use Rattle.received.specs.Received.{class-of}
 use Rattle.bench_loops.specs.Loops.{total, _⊞_, frame, weight}
 use Rattle.bench_loops.proofs.Totals.{one-more, reached}
 use Rattle.bench_loops.proofs.bench_loops_sort.Statement.{statement}

@@ -4,8 +4,8 @@ use Prim.Native.Nat.{ℕ, _≤_, _-_, _*_, _/_}
 use lib.Ieee.{ofBits, ofInt}
 use lib.ListN.{length}
 use borrow.Author.Needs.{needs}
-use Rattle.protocol.specs.Codes.{float, _⊕_}
-use Rattle.protocol.specs.Feedback.{feedback-of}
+use Rattle.frame.specs.Codes.{float, _⊕_}
+use Rattle.received.specs.Received.{feedback-of}
 use Rattle.bench_loops.specs.Loops.{total, frame, reading}
 use Rattle.bench_loops.proofs.Totals.{one-more, reached}
 use Rattle.bench_loops.proofs.feedback_total.Statement.{statement}

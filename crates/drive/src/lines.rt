@@ -1,0 +1,152 @@
+// The lines of the input, however it is cut by the reads, and the output, which is kept until there
+// is much of it.
+use crate::answer::answer_line;
+use crate::answer::bad_line;
+use libc::STDIN_FILENO;
+use libc::STDOUT_FILENO;
+use script::MAX_LINE;
+ghost use Prim.Native.Nat.{_+_, _≤_};
+ghost use lib.ListN.{length};
+
+// The output is written once it has so many bytes. The rest of its buffer has room for any answer.
+const FULL: usize = 49_152;
+
+// After the whole lines of a text: where the unfinished line starts, whether it is the rest of one
+// that is too long, and where the output goes on.
+struct Progress {
+    from: usize,
+    is_long: bool,
+    to: usize,
+}
+
+// An unfinished line: so many bytes at the front of the input, or one that is too long, of which
+// none are kept.
+struct Unfinished {
+    held: usize,
+    is_long: bool,
+}
+
+// Reads and answers to the end of the input. A proved loop has to end, and nothing says that the
+// input does, so the turns are counted down from a number that no run uses up.
+pub(crate) fn run(input: &mut [u8], output: &mut [u8]) {
+    let mut held = 0;
+    let mut is_long = false;
+    let mut to = 0;
+    let mut turns = u64::MAX;
+    while turns > 0 {
+        let end = read_after(input, held);
+        if end <= held {
+            break;
+        }
+        let done = whole_lines(&input[0..end], is_long, output, to);
+        let rest = keep_rest(input, done.from, end, done.is_long);
+        to = done.to;
+        held = rest.held;
+        is_long = rest.is_long;
+        turns -= 1;
+    }
+    let end = last_line(input, held, is_long, output, to);
+    write_out(output, end);
+}
+
+// Reads once, after the bytes that are held, and answers where the bytes end.
+fn read_after(input: &mut [u8], held: usize) -> usize
+    ensures { λ r. ⌜ r ≤ length (now (input .exit)) ⌝ }
+{
+    if held >= input.len() {
+        return 0;
+    }
+    let got = libc::read(STDIN_FILENO, &mut input[held..]);
+    let n = io::count(got, &input[held..]);
+    held + n
+}
+
+// Answers each line of `chunk` that ends in a newline. The first may be the rest of a long one.
+fn whole_lines(chunk: &[u8], is_long: bool, output: &mut [u8], to: usize) -> Progress {
+    let mut from = 0;
+    let mut long = is_long;
+    let mut at = to;
+    while from < chunk.len() {
+        let end = words::index_of(chunk, from, b'\n');
+        if end >= chunk.len() {
+            break;
+        }
+        at = one_line(&chunk[from..end], long, output, at);
+        long = false;
+        from = end + 1;
+    }
+    Progress {
+        from,
+        is_long: long,
+        to: at,
+    }
+}
+
+fn one_line(line: &[u8], is_long: bool, output: &mut [u8], to: usize) -> usize {
+    let at = write_if_full(output, to);
+    if is_long {
+        return bad_line(output, at);
+    }
+    answer_line(line, output, at)
+}
+
+// Answers the last line, which no newline ends.
+fn last_line(input: &[u8], held: usize, is_long: bool, output: &mut [u8], to: usize) -> usize {
+    if held <= input.len() {
+        return one_line(&input[0..held], is_long, output, to);
+    }
+    to
+}
+
+// Keeps the unfinished line, from `from` to `end`.
+fn keep_rest(input: &mut [u8], from: usize, end: usize, is_long: bool) -> Unfinished {
+    if is_long {
+        return Unfinished {
+            held: 0,
+            is_long: true,
+        };
+    }
+    if from < end {
+        if end - from > MAX_LINE {
+            return Unfinished {
+                held: 0,
+                is_long: true,
+            };
+        }
+    }
+    let held = move_to_front(input, from, end);
+    Unfinished {
+        held,
+        is_long: false,
+    }
+}
+
+// Moves the bytes from `from` to `end` to the front, and answers how many there are.
+fn move_to_front(input: &mut [u8], from: usize, end: usize) -> usize {
+    let mut i = 0;
+    let mut j = from;
+    while j < end {
+        if j >= input.len() {
+            return i;
+        }
+        input[i] = input[j];
+        i += 1;
+        j += 1;
+    }
+    i
+}
+
+// Writes out what has gathered if it is much, and answers where the output goes on.
+fn write_if_full(output: &[u8], to: usize) -> usize {
+    if to < FULL {
+        return to;
+    }
+    write_out(output, to);
+    0
+}
+
+fn write_out(output: &[u8], to: usize) {
+    if to <= output.len() {
+        io::write_all(STDOUT_FILENO, &output[0..to]);
+    }
+}

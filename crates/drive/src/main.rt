@@ -1,0 +1,12 @@
+// Reads the line script on standard input, and writes a line for each call to standard output.
+mod answer;
+mod commands;
+mod fields;
+mod lines;
+mod reports;
+
+fn main() {
+    let mut input = io::large_buffer();
+    let mut output = io::large_buffer();
+    lines::run(&mut input, &mut output);
+}

@@ -1,0 +1,42 @@
+-- Floats as codes of so many bits, and back. Each operation is one of f32, rounded once to nearest even. Definitions only.
+use Prim.Native.Nat.{ℕ, _-_, _^_}
+use lib.IntN.{pos}
+use lib.Ieee.{Float, binary32, add, sub, mul, div, ofInt, toUnsigned}
+use Rattle.float.specs.Float.{clip}
+use Rattle.frame.specs.declared.Width.{Width}
+use Rattle.frame.specs.declared.Width.the-variants.{Twelve, Sixteen}
+
+infixl 60 _⊕_ _⊖_
+infixl 70 _⊗_ _⊘_
+abbrev pub _⊕_ : Float → Float → Float
+x ⊕ y = add binary32 x y
+
+abbrev pub _⊖_ : Float → Float → Float
+x ⊖ y = sub binary32 x y
+
+abbrev pub _⊗_ : Float → Float → Float
+x ⊗ y = mul binary32 x y
+
+abbrev pub _⊘_ : Float → Float → Float
+x ⊘ y = div binary32 x y
+
+-- a whole number as a float
+abbrev pub float : ℕ → Float
+float n = ofInt binary32 (pos n)
+
+-- the widths in use
+abbrev pub bits-in : Width → ℕ
+bits-in Twelve = 12
+bits-in Sixteen = 16
+
+-- 2^bits - 1
+abbrev pub full : ℕ → Float
+full bits = float (2 ^ bits - 1)
+
+-- "clip to the limits, subtract the minimum, times (2^bits - 1), divide by span, then drop the fraction. NaN gives 0"
+unfoldable pub float-to-uint : ℕ → Float → Float → Float → ℕ
+float-to-uint bits x min max = toUnsigned 32 ((clip x min max ⊖ min) ⊗ full bits ⊘ (max ⊖ min))
+
+-- "code × span, ÷ (2^bits - 1), + minimum"
+unfoldable pub uint-to-float : ℕ → ℕ → Float → Float → Float
+uint-to-float bits code min max = float code ⊗ (max ⊖ min) ⊘ full bits ⊕ min

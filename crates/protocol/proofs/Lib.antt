@@ -1,4 +1,0 @@
-pub mod Widths
-pub mod Packing
-pub mod Classes
-pub mod Range

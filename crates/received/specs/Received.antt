@@ -1,0 +1,69 @@
+-- What a received frame says. Its data bytes d0 to d7 are a list. Definitions only.
+use Prim.Native.Nat.{ℕ, _+_, _*_, _/_, _%_}
+use mathlib.Core.Bool.{Bool, _&&_, cond}
+use mathlib.Core.List.{List}
+use lib.Dec.{leb, eqb}
+use lib.ListN.{getD}
+use lib.Ieee.{Float}
+use Rattle.motor_core.specs.Model.{limits-of}
+use Rattle.motor_core.specs.declared.model.PvTLimits.{PvTLimits}
+use Rattle.motor_core.specs.declared.model.Limits.{Limits}
+use Rattle.motor_core.specs.declared.model.Limits.the-variants.{Accepted, Refused as BadLimits}
+use Rattle.registers.specs.Registers.{registers, elem, data-type-of}
+use Rattle.registers.specs.Value.{value-of}
+use Rattle.registers.specs.declared.RegisterValue.{RegisterValue}
+use Rattle.frame.specs.Codes.{float, uint-to-float}
+use Rattle.received.specs.declared.feedback.FrameClass.{FrameClass}
+use Rattle.received.specs.declared.feedback.FrameClass.the-variants as Class
+use Rattle.received.specs.declared.feedback.SensorFeedback.{SensorFeedback}
+use Rattle.received.specs.declared.feedback.Decoded.{Decoded}
+use Rattle.received.specs.declared.feedback.Decoded.the-variants as Decode
+use Rattle.received.specs.declared.feedback.Received.{Received}
+use Rattle.received.specs.declared.feedback.Received.the-variants as Receive
+
+-- d0 to d7
+abbrev pub d : List ℕ → ℕ → ℕ
+d bytes k = getD bytes k 0
+
+-- "d1 ≤ 0x0F, d2 = 0x33 and d3 a known register: register reply. Same with d2 = 0x55: write ack. All else is feedback"
+unfoldable pub class : List ℕ → ℕ → ℕ → ℕ → FrameClass
+class known d1 d2 d3 =
+    cond (leb d1 0x0f && (eqb d2 0x33 && elem d3 known)) Class.Reply
+    (cond (leb d1 0x0f && (eqb d2 0x55 && elem d3 known)) Class.Ack
+    Class.Feedback)
+
+abbrev pub class-of : List ℕ → FrameClass
+class-of bytes = class registers (d bytes 1) (d bytes 2) (d bytes 3)
+
+-- "motor = low four bits of d0, status = high four. Position code = d1 × 256 + d2. Velocity code = d3 × 16 + high four of d4. Torque code = low four of d4 × 256 + d5. d6 and d7 are temperatures"
+unfoldable pub feedback-of : PvTLimits → List ℕ → SensorFeedback
+feedback-of l bytes = record {
+  «can_id» = d bytes 0 % 16;
+  «status_code» = d bytes 0 / 16;
+  pos = uint-to-float 16 (d bytes 1 * 256 + d bytes 2) (l .«p_min») (l .«p_max»);
+  vel = uint-to-float 12 (d bytes 3 * 16 + d bytes 4 / 16) (l .«v_min») (l .«v_max»);
+  torq = uint-to-float 12 (d bytes 4 % 16 * 256 + d bytes 5) (l .«t_min») (l .«t_max»);
+  «t_mos» = float (d bytes 6);
+  «t_rotor» = float (d bytes 7);
+}
+
+abbrev pub by-limits : Limits → List ℕ → Decoded
+by-limits (Accepted l) bytes = Decode.Feedback (feedback-of l bytes)
+by-limits (BadLimits n) bytes = Decode.Refused n
+
+-- any eight bytes as feedback; refusal 1
+unfoldable pub decoded : Float → Float → Float → List ℕ → Decoded
+decoded p v t bytes = by-limits (limits-of p v t) bytes
+
+-- the register's value in d4 to d7, lowest byte first, by the type of the register in d3
+unfoldable pub register-value : List ℕ → RegisterValue
+register-value bytes = value-of (data-type-of (d bytes 3)) (d bytes 4 + d bytes 5 * 0x100 + d bytes 6 * 0x1_0000 + d bytes 7 * 0x100_0000)
+
+abbrev pub by-class : FrameClass → PvTLimits → List ℕ → Received
+by-class Class.Reply l bytes = Receive.Reply (d bytes 3) (register-value bytes)
+by-class Class.Ack l bytes = Receive.Ack (d bytes 3) (register-value bytes)
+by-class Class.Feedback l bytes = Receive.Feedback (feedback-of l bytes)
+
+-- sorted, then read
+unfoldable pub received : PvTLimits → List ℕ → Received
+received l bytes = by-class (class-of bytes) l bytes

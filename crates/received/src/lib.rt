@@ -1,0 +1,3 @@
+// What a received frame says.
+pub mod feedback;
+pub mod status;

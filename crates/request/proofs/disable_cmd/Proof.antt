@@ -1,0 +1,15 @@
+-- `request::disable_cmd` meets its contract. Assumes nothing.
+use Rattle.request.specs.Request.{special}
+use borrow.Author.Needs.{needs}
+use Rattle.request.proofs.disable_cmd.Statement.{statement}
+use Rattle.request.proofs.disable_cmd.Tie as tie
+
+frame-for-requires : tie.Need-frame-for-requires
+frame-for-requires c κs = search needs
+
+returns : tie.Need-returns
+unfolding special
+returns c = c .frame-for .ensures
+
+pub disable-cmd-spec : {M : Type 1} → statement M
+disable-cmd-spec = tie.close (tie.spec frame-for-requires returns)

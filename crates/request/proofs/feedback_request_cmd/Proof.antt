@@ -1,0 +1,17 @@
+-- `request::feedback_request_cmd` meets its contract. Assumes nothing.
+use borrow.Author.Needs.{needs}
+use Rattle.request.proofs.feedback_request_cmd.Statement.{statement}
+use Rattle.request.proofs.feedback_request_cmd.Tie as tie
+
+encode-feedback-request-cmd-requires : tie.Need-encode-feedback-request-cmd-requires
+encode-feedback-request-cmd-requires c κs = search needs
+
+frame-for-requires : tie.Need-frame-for-requires
+frame-for-requires c κs = search needs
+
+returns : tie.Need-returns
+returns c = cc
+
+pub feedback-request-cmd-spec : {M : Type 1} → statement M
+feedback-request-cmd-spec =
+    tie.close (tie.spec encode-feedback-request-cmd-requires frame-for-requires returns)

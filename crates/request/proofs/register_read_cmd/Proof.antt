@@ -1,0 +1,17 @@
+-- `request::register_read_cmd` meets its contract. Assumes nothing.
+use borrow.Author.Needs.{needs}
+use Rattle.request.proofs.register_read_cmd.Statement.{statement}
+use Rattle.request.proofs.register_read_cmd.Tie as tie
+
+encode-register-read-cmd-requires : tie.Need-encode-register-read-cmd-requires
+encode-register-read-cmd-requires c κs = search needs
+
+frame-for-requires : tie.Need-frame-for-requires
+frame-for-requires c κs = search needs
+
+returns : tie.Need-returns
+returns c = cc
+
+pub register-read-cmd-spec : {M : Type 1} → statement M
+register-read-cmd-spec =
+    tie.close (tie.spec encode-register-read-cmd-requires frame-for-requires returns)

@@ -1,0 +1,17 @@
+-- `request::store_params_cmd` meets its contract. Assumes nothing.
+use borrow.Author.Needs.{needs}
+use Rattle.request.proofs.store_params_cmd.Statement.{statement}
+use Rattle.request.proofs.store_params_cmd.Tie as tie
+
+encode-store-params-cmd-requires : tie.Need-encode-store-params-cmd-requires
+encode-store-params-cmd-requires c κs = search needs
+
+frame-for-requires : tie.Need-frame-for-requires
+frame-for-requires c κs = search needs
+
+returns : tie.Need-returns
+returns c = cc
+
+pub store-params-cmd-spec : {M : Type 1} → statement M
+store-params-cmd-spec =
+    tie.close (tie.spec encode-store-params-cmd-requires frame-for-requires returns)

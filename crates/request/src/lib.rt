@@ -1,0 +1,98 @@
+// The frames that ask: registers, storing, feedback, and the commands that a last byte tells apart.
+ghost use mathlib.Core.Path.{_≡_};
+ghost use mathlib.Core.List.{[], _∷_};
+ghost use Rattle.frame.specs.Layout.{field, byte};
+ghost use Rattle.request.specs.Request as Spec;
+use frame::Command;
+
+// Where register and store commands and feedback requests go.
+pub const REGISTER_ID: u32 = 0x7ff;
+
+pub const DISABLE: u64 = 0xffff_ffff_ffff_fffd;
+
+const SET_ZERO: u64 = 0xffff_ffff_ffff_fffe;
+
+const CLEAR_ERROR: u64 = 0xffff_ffff_ffff_fffb;
+
+// The motor id, lowest byte first, then two bytes and a word of four.
+fn addressed(motor_id: u16, d2: u8, d3: u8, word: u32) -> u64
+    ensures { λ r. ⌜ r ≡ Spec.addressed «motor_id» (byte d2 ∷ (byte d3 ∷ (field 32 word ∷ []))) ⌝ }
+{
+    let id = motor_id as u64;
+    let head = id % 256 * 256 + id / 256;
+    ((head * 256 + (d2 as u64)) * 256 + (d3 as u64)) * 0x1_0000_0000 + (word as u64)
+}
+
+pub fn encode_register_read_cmd(motor_id: u16, rid: u8) -> u64
+    ensures { λ r. ⌜ r ≡ Spec.register-read-data «motor_id» rid ⌝ }
+{
+    addressed(motor_id, 0x33, rid, 0)
+}
+
+pub fn encode_register_write_cmd(motor_id: u16, rid: u8, bits: u32) -> u64
+    ensures { λ r. ⌜ r ≡ Spec.register-write-data «motor_id» rid bits ⌝ }
+{
+    addressed(motor_id, 0x55, rid, frame::reversed(bits))
+}
+
+pub fn encode_store_params_cmd(motor_id: u16) -> u64
+    ensures { λ r. ⌜ r ≡ Spec.store-params-data «motor_id» ⌝ }
+{
+    addressed(motor_id, 0xaa, 0x01, 0)
+}
+
+pub fn encode_feedback_request_cmd(motor_id: u16) -> u64
+    ensures { λ r. ⌜ r ≡ Spec.feedback-request-data «motor_id» ⌝ }
+{
+    addressed(motor_id, 0xcc, 0x00, 0)
+}
+
+pub fn register_read_cmd(motor_id: u16, rid: u8) -> Command
+    ensures { λ r. ⌜ r ≡ Spec.register-read-cmd «motor_id» rid ⌝ }
+{
+    frame::frame_for(
+        motor_id,
+        REGISTER_ID,
+        encode_register_read_cmd(motor_id, rid),
+    )
+}
+
+pub fn register_write_cmd(motor_id: u16, rid: u8, bits: u32) -> Command
+    ensures { λ r. ⌜ r ≡ Spec.register-write-cmd «motor_id» rid bits ⌝ }
+{
+    frame::frame_for(
+        motor_id,
+        REGISTER_ID,
+        encode_register_write_cmd(motor_id, rid, bits),
+    )
+}
+
+pub fn store_params_cmd(motor_id: u16) -> Command
+    ensures { λ r. ⌜ r ≡ Spec.store-params-cmd «motor_id» ⌝ }
+{
+    frame::frame_for(motor_id, REGISTER_ID, encode_store_params_cmd(motor_id))
+}
+
+pub fn feedback_request_cmd(motor_id: u16) -> Command
+    ensures { λ r. ⌜ r ≡ Spec.feedback-request-cmd «motor_id» ⌝ }
+{
+    frame::frame_for(motor_id, REGISTER_ID, encode_feedback_request_cmd(motor_id))
+}
+
+pub fn disable_cmd(motor_id: u16) -> Command
+    ensures { λ r. ⌜ r ≡ Spec.disable-cmd «motor_id» ⌝ }
+{
+    frame::frame_for(motor_id, motor_id as u32, DISABLE)
+}
+
+pub fn set_zero_cmd(motor_id: u16) -> Command
+    ensures { λ r. ⌜ r ≡ Spec.set-zero-cmd «motor_id» ⌝ }
+{
+    frame::frame_for(motor_id, motor_id as u32, SET_ZERO)
+}
+
+pub fn clear_error_cmd(motor_id: u16) -> Command
+    ensures { λ r. ⌜ r ≡ Spec.clear-error-cmd «motor_id» ⌝ }
+{
+    frame::frame_for(motor_id, motor_id as u32, CLEAR_ERROR)
+}

@@ -1,0 +1,107 @@
+-- A line as a call: the line script's table, and how a line goes by it.
+use Prim.Native.Nat.{ℕ, suc}
+use Prim.Native.Char.{code}
+use Prim.Native.String.{String}
+use mathlib.Core.Bool.{Bool, true, false, cond, _||_}
+use mathlib.Core.List.{List, [], _∷_}
+use lib.ListN.{length, set, replicate}
+use lib.Dec.{ltb, eqb}
+use Rattle.words.specs.Number.{fieldOf}
+use Rattle.text.specs.Ascii.{ascii}
+use Rattle.words.specs.Word.{indexOf, same, split}
+use Rattle.words.specs.declared.Read.{Read}
+use Rattle.words.specs.declared.Read.the-variants.{Value, Bad}
+use Rattle.script.specs.declared.Call.{Call}
+
+abbrev pub row : String → String → List (List ℕ) → List (List ℕ)
+row name kinds rows = ascii name ∷ (ascii kinds ∷ rows)
+
+-- each call's word, and a letter for the kind of each argument; a call's code is its place here
+unfoldable pub calls : List (List ℕ)
+calls =
+    row "start-limits" "iiwww"
+    (row "start-model" "nii"
+    (row "get-u32" "bq"
+    (row "get-f32" "bq"
+    (row "write-u32" "bw"
+    (row "write-f32" "bw"
+    (row "fresh-state" "q"
+    (row "store" ""
+    (row "mode" "wq"
+    (row "clock" "q"
+    (row "sent" ""
+    (row "send-timeout" ""
+    (row "send-failed" ""
+    (row "slept" ""
+    (row "frame" "qwqbf"
+    (row "frame-lent" "qwqbf"
+    (row "accepts" "wqbf"
+    (row "patch" "bbb"
+    (row "session" ""
+    (row "mit" "iwwwwwwww"
+    (row "pos-vel" "iww"
+    (row "vel" "iw"
+    (row "force-pos" "iwww"
+    (row "read-reg" "ib"
+    (row "write-reg" "ibw"
+    (row "store-params" "i"
+    (row "feedback-request" "i"
+    (row "disable" "i"
+    (row "zero" "i"
+    (row "clear" "i"
+    (row "decode" "wwwq"
+    (row "sort" "q"
+    (row "status-name" "b"
+    (row "register" "b"
+    (row "match" "wwww"
+    (row "suggest" "wwwq" [])))))))))))))))))))))))))))))))))))
+
+abbrev pub plain : ℕ → Call
+plain code = record { code = code; args = replicate 9 0 }
+
+abbrev pub badCall : Call
+badCall = plain 254
+
+-- a line that writes nothing
+abbrev pub noCall : Call
+noCall = plain 255
+
+abbrev pub withValue : Read → (ℕ → Call) → Call
+withValue (Value n) next = next n
+withValue Bad next = badCall
+
+-- the words as the arguments from place i on, one for each kind, nine at most
+unfoldable pub fieldsOf : List ℕ → List (List ℕ) → ℕ → ℕ → List ℕ → Call
+fieldsOf [] [] code i args = record { code = code; args = args }
+fieldsOf [] (word ∷ words) code i args = badCall
+fieldsOf (kind ∷ kinds) [] code i args = badCall
+fieldsOf (kind ∷ kinds) (word ∷ words) code i args =
+    cond (ltb i 9)
+    (withValue (fieldOf kind word) (λ n. fieldsOf kinds words code (suc i) (set args i n)))
+    badCall
+
+-- the call of the first row that has this word
+unfoldable pub callFrom : List (List ℕ) → List ℕ → List (List ℕ) → ℕ → Call
+callFrom [] word words code = badCall
+callFrom (name ∷ []) word words code = badCall
+callFrom (name ∷ (kinds ∷ rows)) word words code =
+    cond (same name word) (fieldsOf kinds words code 0 (replicate 9 0)) (callFrom rows word words (suc code))
+
+unfoldable pub callOf : List (List ℕ) → List (List ℕ) → Call
+callOf rows [] = badCall
+callOf rows (word ∷ words) = callFrom rows word words 0
+
+abbrev pub has : ℕ → List ℕ → Bool
+has b s = ltb (indexOf b s) (length s)
+
+abbrev pub passedOver : List ℕ → Bool
+passedOver [] = true
+passedOver (b ∷ rest) = eqb b (code "#")
+
+-- a line of more than 4,095 ascii is bad whatever it begins with; so is one with a tab or a carriage return that is not passed over
+unfoldable pub parsed : List ℕ → Call
+parsed line =
+    cond (ltb 4095 (length line)) badCall
+    (cond (passedOver line) noCall
+    (cond (has 9 line || has 13 line) badCall
+    (callOf calls (split line))))

@@ -1,0 +1,13 @@
+// The line script: the calls that lines are.
+pub mod calls;
+
+pub use calls::parse;
+
+// The bytes that a line may have.
+pub const MAX_LINE: usize = 4095;
+
+// A line's call and its arguments, in their order, with zeros after them. A name's argument is its length.
+pub struct Call {
+    pub code: u64,
+    pub args: [u64; 9],
+}

@@ -1,0 +1,20 @@
+-- `setpoint::pos_vel_cmd` meets its contract. Assumes nothing.
+use borrow.Author.Needs.{needs}
+use Rattle.setpoint.proofs.pos_vel_cmd.Statement.{statement}
+use Rattle.setpoint.proofs.pos_vel_cmd.Tie as tie
+
+encode-pos-vel-cmd-requires : tie.Need-encode-pos-vel-cmd-requires
+encode-pos-vel-cmd-requires c κs = search needs
+
+add-frame-for : tie.Need-add-frame-for
+add-frame-for c = search needs
+
+frame-for-requires : tie.Need-frame-for-requires
+frame-for-requires c κs = search needs
+
+returns : tie.Need-returns
+returns c = cc
+
+pub pos-vel-cmd-spec : {M : Type 1} → statement M
+pos-vel-cmd-spec =
+    tie.close (tie.spec encode-pos-vel-cmd-requires add-frame-for frame-for-requires returns)

@@ -1,0 +1,67 @@
+-- The frames that set a point, as document 01 lays them out. Definitions only.
+use Prim.Native.Nat.{ℕ, _+_}
+use mathlib.Core.List.{List, [], _∷_, _++_}
+use lib.Ieee.{Float, toUnsigned}
+use Rattle.float.specs.Float.{clip}
+use Rattle.motor_core.specs.Model.{limits-of}
+use Rattle.motor_core.specs.declared.model.PvTLimits.{PvTLimits}
+use Rattle.motor_core.specs.declared.model.Limits.{Limits}
+use Rattle.motor_core.specs.declared.model.Limits.the-variants.{Accepted, Refused as BadLimits}
+use Rattle.frame.specs.Codes.{float, _⊗_, float-to-uint}
+use Rattle.frame.specs.Layout.{field, packed, packed-onto, little-endian, bytes}
+use Rattle.frame.specs.Command.{frame-for}
+use Rattle.frame.specs.declared.Command.{Command}
+use Rattle.frame.specs.declared.Command.the-variants.{Refused}
+
+-- ---- the eight data bytes
+
+-- "the codes position, velocity, kp, kd, torque packed high bit first": position 16 bits, the others 12; kp from 0 to 500, kd from 0 to 5
+unfoldable pub mit-data : PvTLimits → Float → Float → Float → Float → Float → ℕ
+unfolding packed-onto
+mit-data l pos vel kp kd torq =
+    packed
+    (field 16 (float-to-uint 16 pos (l .«p_min») (l .«p_max»))
+    ∷ (field 12 (float-to-uint 12 vel (l .«v_min») (l .«v_max»))
+    ∷ (field 12 (float-to-uint 12 kp (float 0) (float 500))
+    ∷ (field 12 (float-to-uint 12 kd (float 0) (float 5))
+    ∷ (field 12 (float-to-uint 12 torq (l .«t_min») (l .«t_max»))
+    ∷ [])))))
+
+-- "floats little-endian". A float that travels unchanged is its 32 bits
+unfoldable pub pos-vel-data : ℕ → ℕ → ℕ
+unfolding packed-onto little-endian
+pos-vel-data pos vlim = packed (little-endian 4 pos ++ little-endian 4 vlim)
+
+unfoldable pub vel-data : ℕ → ℕ
+unfolding packed-onto little-endian bytes
+vel-data vel = packed (little-endian 4 vel ++ bytes 4 0)
+
+-- clipped to 0..most, times scale, the multiplication rounded, then the fraction dropped
+unfoldable pub scaled : Float → ℕ → ℕ → ℕ
+scaled x most scale = toUnsigned 16 (clip x (float 0) (float most) ⊗ float scale)
+
+-- "velocity limit clipped to 0..100 times 100, ratio to 0..1 times 10,000, 16 bits little-endian"
+unfoldable pub force-pos-data : ℕ → Float → Float → ℕ
+unfolding packed-onto little-endian
+force-pos-data pos vlim ratio = packed (little-endian 4 pos ++ (little-endian 2 (scaled vlim 100 100) ++ little-endian 2 (scaled ratio 1 10000)))
+
+-- ---- the frames: id and data, or a refusal
+
+-- refused as the limits are, or made with them
+abbrev pub with-limits : Limits → (PvTLimits → Command) → Command
+with-limits (Accepted l) f = f l
+with-limits (BadLimits n) f = Refused n
+
+-- "MIT frame on the motor id"; refusals 1, then 2
+unfoldable pub mit-cmd : ℕ → Float → Float → Float → Float → Float → Float → Float → Float → Command
+mit-cmd motor p v t pos vel kp kd torq = with-limits (limits-of p v t) (λ l. frame-for motor motor (mit-data l pos vel kp kd torq))
+
+-- "position-velocity, velocity and force-position go on 0x100, 0x200, 0x300 plus motor id"
+abbrev pub pos-vel-cmd : ℕ → ℕ → ℕ → Command
+pos-vel-cmd motor pos vlim = frame-for motor (0x100 + motor) (pos-vel-data pos vlim)
+
+abbrev pub vel-cmd : ℕ → ℕ → Command
+vel-cmd motor vel = frame-for motor (0x200 + motor) (vel-data vel)
+
+abbrev pub force-pos-cmd : ℕ → ℕ → Float → Float → Command
+force-pos-cmd motor pos vlim ratio = frame-for motor (0x300 + motor) (force-pos-data pos vlim ratio)

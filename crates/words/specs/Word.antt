@@ -1,0 +1,36 @@
+-- The words of a line: what stands between its spaces. Two spaces in a row, or one at either end, make an empty word.
+use Prim.Native.Nat.{ℕ, zero, suc}
+use Prim.Native.Char.{code}
+use mathlib.Core.Bool.{Bool, true, false, cond, _&&_}
+use mathlib.Core.List.{List, [], _∷_}
+use lib.ListN.{length, drop}
+use lib.Dec.{leb, eqb}
+
+-- the index of the first b, or the length where there is none
+unfoldable pub indexOf : ℕ → List ℕ → ℕ
+indexOf b [] = zero
+indexOf b (x ∷ rest) = cond (eqb x b) zero (suc (indexOf b rest))
+
+unfoldable pub same : List ℕ → List ℕ → Bool
+same [] [] = true
+same [] (y ∷ ys) = false
+same (x ∷ xs) [] = false
+same (x ∷ xs) (y ∷ ys) = eqb x y && same xs ys
+
+-- x put before the first word
+abbrev pub longer : ℕ → List (List ℕ) → List (List ℕ)
+longer x [] = []
+longer x (word ∷ words) = (x ∷ word) ∷ words
+
+unfoldable pub split : List ℕ → List (List ℕ)
+split [] = [] ∷ []
+split (x ∷ rest) = cond (eqb x (code " ")) ([] ∷ split rest) (longer x (split rest))
+
+-- the words from a place on; past the end there is none
+unfoldable pub wordsFrom : List ℕ → ℕ → List (List ℕ)
+wordsFrom s at = cond (leb at (length s)) (split (drop at s)) []
+
+unfoldable pub second : List (List ℕ) → List ℕ
+second [] = []
+second (word ∷ []) = []
+second (word ∷ (other ∷ words)) = other
