@@ -160,6 +160,23 @@ shifted-right b l k =
     short : (b : ℕ) → digits b / 2 ^ (150 - b / 8388608) < 2 ^ 32
     short b = lt-of-lt-of-le (shr-lt 24 (150 - b / 8388608) (lt-of-lt-of-le (digits-lt b) (pow-mono (le-add-right 24 (150 - b / 8388608))))) (lit≤ tt)
 
+-- ---- below 2 ^ 24: a shift to the right, which leaves nothing below 1
+pub fraction-dropped : (b n : ℕ) → b < 0x4b80_0000 → n ≡ min (150 - b / 8388608) 24 → toUnsigned 32 (ofBits binary32 b) ≡ digits b / 2 ^ n
+fraction-dropped b n u e = go (leb 0x3f80_0000 b) (leb→le 0x3f80_0000 b) (nleb→lt 0x3f80_0000 b)
+  where
+    some : (b : ℕ) → b < 0x4b80_0000 → b / 8388608 ≤ 150
+    some b h = omega arith
+
+    part : (b n : ℕ) → n ≡ min (150 - b / 8388608) 24 → 0x3f80_0000 ≤ b → 150 - b / 8388608 ≡ n
+    part b n h k = omega arith
+
+    every : (b n : ℕ) → n ≡ min (150 - b / 8388608) 24 → b < 0x3f80_0000 → 24 ≡ n
+    every b n h k = omega arith
+
+    go : (s : Bool) → (T s → 0x3f80_0000 ≤ b) → (T (not s) → b < 0x3f80_0000) → toUnsigned 32 (ofBits binary32 b) ≡ digits b / 2 ^ n
+    go true l k = shifted-right b (l tt) (some b u) ∙ ap (λ (m : ℕ). digits b / 2 ^ m) (part b n e (l tt))
+    go false l k = below-one b (k tt) ∙ sym (div-eq-of-lt (digits-lt b)) ∙ ap (λ (m : ℕ). digits b / 2 ^ m) (every b n e (k tt))
+
 -- ---- from 2 ^ 24 to 2 ^ 32: a shift to the left
 pub shifted-left : (b : ℕ) → 150 < b / 8388608 → b < 0x4f80_0000 → toUnsigned 32 (ofBits binary32 b) ≡ digits b * 2 ^ (b / 8388608 - 150) % 2 ^ 32
 shifted-left b k u =

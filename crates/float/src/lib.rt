@@ -1,6 +1,7 @@
 // f32 helpers that the language lacks: bit patterns with their NaNs, clamping, and `as` casts to
 // whole numbers, worked out from the bits. Each is total.
 ghost use mathlib.Core.Path.{_≡_};
+ghost use Prim.Native.Nat.{_-_, _≤_, min};
 ghost use lib.Ieee as Ieee;
 ghost use lib.Ieee.{binary32};
 ghost use Rattle.float.specs.Float.{clip};
@@ -44,6 +45,14 @@ pub fn clamp(x: f32, min: f32, max: f32) -> f32
     if y > max { max } else { y }
 }
 
+// How many of a float's 24 digits the fraction has, all of them below 1, by the exponent's field.
+fn fraction_digits(exponent: u32) -> u32
+    requires { ⌜ exponent ≤ 150 ⌝ }
+    ensures { λ r. ⌜ r ≡ min (150 - exponent) 24 ⌝ }
+{
+    if exponent < 126 { 24 } else { 150 - exponent }
+}
+
 // Rust's `x as u32`: the fraction is dropped, what is out of range goes to the nearest end, and a
 // NaN gives 0.
 pub fn as_u32(x: f32) -> u32
@@ -53,15 +62,12 @@ pub fn as_u32(x: f32) -> u32
         return 0;
     }
     let bits: u32 = f32::to_bits(x);
-    // below 1
-    if bits < 0x3f80_0000 {
-        return 0;
-    }
     // the value is digits * 2 ^ (exponent - 150)
     let exponent: u32 = bits / 0x80_0000;
     let digits: u32 = bits % 0x80_0000 + 0x80_0000;
-    if exponent <= 150 {
-        return digits >> (150 - exponent);
+    // below 2^24
+    if bits < 0x4b80_0000 {
+        return digits >> fraction_digits(exponent);
     }
     if bits < 0x4f80_0000 {
         return digits << (exponent - 150);

@@ -51,12 +51,12 @@ pub record AreBytes (n a b c d e f g h : ℕ) : Type 0 where
 pub eight-bytes : (a b c d e f g h : ℕ) → a < 256 → b < 256 → c < 256 → d < 256 → e < 256 → f < 256 → g < 256 → h < 256 → AreBytes (eight a b c d e f g h) a b c d e f g h
 unfolding packed-onto
 eight-bytes a b c d e f g h a8 b8 c8 d8 e8 f8 g8 h8 = record {
-      d0 = omega arith;
-      d1 = omega arith;
-      d2 = omega arith;
-      d3 = omega arith;
-      d4 = omega arith;
-      d5 = omega arith;
-      d6 = omega arith;
-      d7 = omega arith
-    }
+  d0 = omega arith;
+  d1 = omega arith;
+  d2 = omega arith;
+  d3 = omega arith;
+  d4 = omega arith;
+  d5 = omega arith;
+  d6 = omega arith;
+  d7 = omega arith;
+}

@@ -1,7 +1,8 @@
 // What a received frame says: its class, the feedback in it, or a register and its value.
 ghost use mathlib.Core.Path.{_≡_};
 ghost use Prim.Native.Nat.{_+_, _*_};
-ghost use mathlib.Core.Bool.{true};
+ghost use mathlib.Core.Bool.{true, _&&_, _||_};
+ghost use lib.Dec.{leb, eqb};
 ghost use Rattle.registers.specs.Registers.{known};
 ghost use Rattle.frame.specs.Codes.{float, uint-to-float, bits-in};
 ghost use Rattle.received.specs.Received as Spec;
@@ -60,26 +61,29 @@ fn temperature(byte: u8) -> f32
     byte as f32
 }
 
+// Whether d1 and d2 are a register frame's. All three tests are made, so that a processor does not
+// guess which marker comes.
+fn marks_register(d1: u8, d2: u8) -> bool
+    ensures { λ r. ⌜ r ≡ (leb d1 0x0f && (eqb d2 0x33 || eqb d2 0x55)) ⌝ }
+{
+    (d1 <= 0x0f) & ((d2 == 0x33) | (d2 == 0x55))
+}
+
 pub fn frame_class(data: [u8; 8]) -> FrameClass
     ensures { λ r. ⌜ r ≡ Spec.class-of «data» ⌝ }
 {
-    if data[1] > 0x0f {
-        return FrameClass::Feedback;
-    }
     let marker = data[2];
+    if !marks_register(data[1], marker) {
+        return FrameClass::Feedback;
+    }
+    if !registers::is_known(data[3]) {
+        return FrameClass::Feedback;
+    }
     if marker == 0x33 {
-        if registers::is_known(data[3]) {
-            return FrameClass::Reply;
-        }
-        return FrameClass::Feedback;
+        FrameClass::Reply
+    } else {
+        FrameClass::Ack
     }
-    if marker == 0x55 {
-        if registers::is_known(data[3]) {
-            return FrameClass::Ack;
-        }
-        return FrameClass::Feedback;
-    }
-    FrameClass::Feedback
 }
 
 pub fn decode_sensor_feedback(data: [u8; 8], limits: PvTLimits) -> SensorFeedback

@@ -1,0 +1,101 @@
+//! Measures the proved library beside the Rust original: the same loops over the same inputs, in
+//! one process and in turns.
+
+mod inputs;
+mod measure;
+mod original;
+mod ours;
+
+use inputs::{Frame, Random};
+use measure::{Row, Work};
+
+const SEED: u64 = 4310;
+
+fn encode(random: &mut Random, name: &'static str, beyond: f32, n: usize) -> Result<Row, String> {
+    let input = inputs::setpoints(random, beyond);
+    let work = Work {
+        name,
+        input: &input,
+        width: 5,
+        ours: ours::encode_mit,
+        original: original::encode_mit,
+    };
+    work.measured(n)
+}
+
+fn decode(random: &mut Random, name: &'static str, n: usize) -> Result<Row, String> {
+    let input = inputs::frames(random, inputs::feedback);
+    let work = Work {
+        name,
+        input: &input,
+        width: 8,
+        ours: ours::decode_feedback,
+        original: original::decode_feedback,
+    };
+    work.measured(n)
+}
+
+fn sort(
+    random: &mut Random,
+    name: &'static str,
+    make: fn(&mut Random) -> Frame,
+    n: usize,
+) -> Result<Row, String> {
+    let input = inputs::frames(random, make);
+    let work = Work {
+        name,
+        input: &input,
+        width: 8,
+        ours: ours::sort,
+        original: original::sort,
+    };
+    work.measured(n)
+}
+
+fn rows(n: usize) -> Result<Vec<Row>, String> {
+    let r = &mut Random(SEED);
+    Ok(vec![
+        encode(r, "encode MIT, within the limits", 0.0, n)?,
+        encode(r, "encode MIT, a third beyond", 0.25, n)?,
+        decode(r, "decode feedback", n)?,
+        sort(r, "sort replies", inputs::reply, n)?,
+        sort(r, "sort acks", inputs::ack, n)?,
+        sort(r, "sort feedback", inputs::feedback, n)?,
+        sort(r, "sort feedback, d1 up to 0F", inputs::low_feedback, n)?,
+        sort(r, "sort unknown registers", inputs::unknown_register, n)?,
+        sort(r, "sort, a third of each class", inputs::mixed, n)?,
+    ])
+}
+
+fn print(rows: &[Row]) {
+    println!("| row | ours | Rust | ratio | ours, median | Rust, median | ratio |");
+    println!("|---|---|---|---|---|---|---|");
+    for Row {
+        name,
+        ours,
+        original,
+    } in rows
+    {
+        println!(
+            "| {name} | {:.2} | {:.2} | {:.2} | {:.2} | {:.2} | {:.2} |",
+            ours.best,
+            original.best,
+            ours.best / original.best,
+            ours.median,
+            original.median,
+            ours.median / original.median,
+        );
+    }
+}
+
+fn main() -> Result<(), String> {
+    let rounds = match std::env::args().nth(1) {
+        Some(word) => word.parse().map_err(|_| "usage: bench [ROUNDS]")?,
+        None => 31,
+    };
+    let rows = rows(std::cmp::max(rounds, 1))?;
+    println!("ns a call, best and median of {rounds} rounds");
+    println!();
+    print(&rows);
+    Ok(())
+}

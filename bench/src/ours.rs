@@ -1,0 +1,24 @@
+//! The proved loops of crate bench_loops. Each takes a slice as pointer and length.
+
+#[link(name = "bench_loops", kind = "static")]
+extern "C" {
+    fn bench_loops_encode_mit(xs: *const f32, len: usize) -> u64;
+    fn bench_loops_decode_feedback(frames: *const u8, len: usize) -> f32;
+    fn bench_loops_sort(frames: *const u8, len: usize) -> u64;
+}
+
+pub fn encode_mit(setpoints: &[f32]) -> u64 {
+    // SAFETY: a slice's pointer and length, read only.
+    unsafe { bench_loops_encode_mit(setpoints.as_ptr(), setpoints.len()) }
+}
+
+pub fn decode_feedback(frames: &[u8]) -> u64 {
+    // SAFETY: as above.
+    let sum = unsafe { bench_loops_decode_feedback(frames.as_ptr(), frames.len()) };
+    sum.to_bits().into()
+}
+
+pub fn sort(frames: &[u8]) -> u64 {
+    // SAFETY: as above.
+    unsafe { bench_loops_sort(frames.as_ptr(), frames.len()) }
+}
