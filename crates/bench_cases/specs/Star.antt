@@ -30,7 +30,7 @@ abbrev pub zero : Float
 zero = float 0
 
 abbrev pub frame : ℕ → ℕ → ℕ → ℕ → ℕ → ℕ → ℕ → ℕ → List ℕ
-frame a b c d e f g h = a ∷ (b ∷ (c ∷ (d ∷ (e ∷ (f ∷ (g ∷ (h ∷ [])))))))
+frame a b c d e f g h = a ∷ b ∷ c ∷ d ∷ e ∷ f ∷ g ∷ h ∷ []
 
 pub record Star : Type 0 where
   pub mit-all-zero : mit-cmd 1 p v t zero zero zero zero zero ≡ Frame 1 0x7FFF_7FF0_0000_07FF

@@ -38,14 +38,14 @@ mit-total l xs = total _⊞_ 0 (λ k. setpoint-data l xs (k * 5)) (length xs / 5
 abbrev pub frame : List ℕ → ℕ → List ℕ
 frame bytes at =
     getD bytes at 0
-    ∷ (getD bytes (at + 1) 0
-    ∷ (getD bytes (at + 2) 0
-    ∷ (getD bytes (at + 3) 0
-    ∷ (getD bytes (at + 4) 0
-    ∷ (getD bytes (at + 5) 0
-    ∷ (getD bytes (at + 6) 0
-    ∷ (getD bytes (at + 7) 0
-    ∷ [])))))))
+    ∷ getD bytes (at + 1) 0
+    ∷ getD bytes (at + 2) 0
+    ∷ getD bytes (at + 3) 0
+    ∷ getD bytes (at + 4) 0
+    ∷ getD bytes (at + 5) 0
+    ∷ getD bytes (at + 6) 0
+    ∷ getD bytes (at + 7) 0
+    ∷ []
 
 -- all seven numbers of a feedback
 abbrev pub reading : SensorFeedback → Float

@@ -36,7 +36,7 @@ four-bytes-lt b = omega arith
 
 -- eight bytes that are packed come back as d0 to d7
 abbrev pub eight : ℕ → ℕ → ℕ → ℕ → ℕ → ℕ → ℕ → ℕ → ℕ
-eight a b c d e f g h = packed (byte a ∷ (byte b ∷ (byte c ∷ (byte d ∷ (byte e ∷ (byte f ∷ (byte g ∷ (byte h ∷ []))))))))
+eight a b c d e f g h = packed (byte a ∷ byte b ∷ byte c ∷ byte d ∷ byte e ∷ byte f ∷ byte g ∷ byte h ∷ [])
 
 pub record AreBytes (n a b c d e f g h : ℕ) : Type 0 where
   pub d0 : data-byte n 0 ≡ a

@@ -33,10 +33,10 @@ bits-in Sixteen = 16
 abbrev pub full : ℕ → Float
 full bits = float (2 ^ bits - 1)
 
--- "clip to the limits, subtract the minimum, times (2^bits - 1), divide by span, then drop the fraction. NaN gives 0"
+-- 'The command bytes', `float_to_uint`: how far the clipped value lies above the minimum, in parts of the span as the largest code counts them; the cast drops the fraction and makes 0 of a NaN
 unfoldable pub float-to-uint : ℕ → Float → Float → Float → ℕ
 float-to-uint bits x min max = toUnsigned 32 ((clip x min max ⊖ min) ⊗ full bits ⊘ (max ⊖ min))
 
--- "code × span, ÷ (2^bits - 1), + minimum"
+-- 'The feedback on the screen', `uint_to_float`: so many parts of the span above the minimum
 unfoldable pub uint-to-float : ℕ → ℕ → Float → Float → Float
 uint-to-float bits code min max = float code ⊗ (max ⊖ min) ⊘ full bits ⊕ min

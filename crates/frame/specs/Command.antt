@@ -6,6 +6,6 @@ use Rattle.motor_core.specs.Error.{motor-id}
 use Rattle.frame.specs.declared.Command.{Command}
 use Rattle.frame.specs.declared.Command.the-variants.{Frame, Refused}
 
--- "its motor id is tested as 2"
+-- 'The command bytes', last rule: refused with 2 where the motor id is not taken
 unfoldable pub frame-for : ℕ → ℕ → ℕ → Command
 frame-for motor arbitration bits = cond (motor-id-accepted motor) (Frame arbitration bits) (Refused motor-id)

@@ -8,11 +8,11 @@ use Rattle.motor_core.specs.declared.model.PvTLimits.{PvTLimits}
 use Rattle.motor_core.specs.declared.model.Limits.{Limits}
 use Rattle.motor_core.specs.declared.model.Limits.the-variants.{Accepted, Refused}
 
--- "a limit not finite, below 1/1024 or above 65,536" is turned back; a NaN is at no end
+-- 'Turned back', 1: taken from 1/1024 to 65,536, both included. A NaN compares with neither, an infinity lies beyond
 unfoldable pub limit-accepted : Float → Bool
 limit-accepted max = le (fin false 1 (negsuc 9)) max && le max (fin false 1 (pos 16))
 
--- "one record of six floats, each minimum the negative of its maximum"
+-- 'The feedback on the screen', limits: six floats from three maxima, a minimum being its maximum negated
 abbrev pub from-maxima : Float → Float → Float → PvTLimits
 from-maxima p v t = record { «p_min» = neg p; «p_max» = p; «v_min» = neg v; «v_max» = v; «t_min» = neg t; «t_max» = t }
 

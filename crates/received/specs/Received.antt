@@ -25,7 +25,7 @@ use Rattle.received.specs.declared.feedback.Received.the-variants as Rec
 abbrev pub d : List ℕ → ℕ → ℕ
 d bytes k = getD bytes k 0
 
--- "d1 ≤ 0x0F, d2 = 0x33 and d3 a known register: register reply. Same with d2 = 0x55: write ack. All else is feedback"
+-- 'The feedback on the screen', sorting, over any list of registers: a reply has the marker 0x33 in d2, an ack 0x55; both have d1 up to 0x0F and a listed register in d3. Every other frame is feedback
 unfoldable pub class : List ℕ → ℕ → ℕ → ℕ → FrameClass
 class known d1 d2 d3 =
     cond (leb d1 0x0f && (eqb d2 0x33 && elem d3 known)) Class.Reply
@@ -35,7 +35,7 @@ class known d1 d2 d3 =
 abbrev pub class-of : List ℕ → FrameClass
 class-of bytes = class registers (d bytes 1) (d bytes 2) (d bytes 3)
 
--- "motor = low four bits of d0, status = high four. Position code = d1 × 256 + d2. Velocity code = d3 × 16 + high four of d4. Torque code = low four of d4 × 256 + d5. d6 and d7 are temperatures"
+-- the same, feedback: d0 is two fields of four bits, d1 to d5 three codes of 16, 12 and 12 bits, d6 and d7 whole numbers as floats
 unfoldable pub feedback-of : PvTLimits → List ℕ → SensorFeedback
 feedback-of l bytes = record {
   «can_id» = d bytes 0 % 16;

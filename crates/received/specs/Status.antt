@@ -11,20 +11,21 @@ abbrev pub lookup : List (ℕ × StatusName) → ℕ → StatusName
 lookup [] status = Unknown
 lookup (entry ∷ entries) status = cond (eqb status (entry .0)) (entry .1) (lookup entries status)
 
--- "0 DISABLED, 1 ENABLED, 8 to 14 the seven faults"; every other number is UNKNOWN
+-- 'The feedback on the screen', status names: nine numbers have one, and every other is unknown
 unfoldable pub status-name : ℕ → StatusName
 status-name status =
     lookup
     ((0, Disabled)
-    ∷ ((1, Enabled)
-    ∷ ((8, OverVoltage)
-    ∷ ((9, UnderVoltage)
-    ∷ ((10, OverCurrent)
-    ∷ ((11, MosOverTemp)
-    ∷ ((12, RotorOverTemp)
-    ∷ ((13, LostComm)
-    ∷ ((14, Overload)
-    ∷ []))))))))) status
+    ∷ (1, Enabled)
+    ∷ (8, OverVoltage)
+    ∷ (9, UnderVoltage)
+    ∷ (10, OverCurrent)
+    ∷ (11, MosOverTemp)
+    ∷ (12, RotorOverTemp)
+    ∷ (13, LostComm)
+    ∷ (14, Overload)
+    ∷ [])
+    status
 
 -- as protocol.rs spells them
 abbrev pub spelt : StatusName → String

@@ -25,17 +25,17 @@ unfoldable pub elem : ℕ → List ℕ → Bool
 elem x [] = false
 elem x (y ∷ ys) = eqb x y || elem x ys
 
--- "53 registers: 0 to 36, 50 to 56, 59 to 65, 80, 81"
+-- 'The register answers': the 53 registers
 unfoldable pub registers : List ℕ
 unfolding _to_
-registers = (0 to 36) ++ ((50 to 56) ++ ((59 to 65) ++ (80 to 81)))
+registers = (0 to 36) ++ (50 to 56) ++ (59 to 65) ++ (80 to 81)
 
--- "Whole-number type: 7 to 10, 13 to 16, 35, 36; others float"
+-- those that hold a whole number; the others hold a float
 unfoldable pub whole-number : List ℕ
 unfolding _to_
-whole-number = (7 to 10) ++ ((13 to 16) ++ (35 to 36))
+whole-number = (7 to 10) ++ (13 to 16) ++ (35 to 36)
 
--- "Writable: 0 to 10 and 21 to 35"
+-- those that can be written
 unfoldable pub writable : List ℕ
 unfolding _to_
 writable = (0 to 10) ++ (21 to 35)

@@ -1,4 +1,4 @@
--- A register's value: "a float or a 32-bit whole number, compared bit for bit". Definitions only.
+-- A register's value: a type and 32 bits, by which two values are compared. A NaN is a case of its own, with its bits. Definitions only.
 use Prim.Native.Nat.{ℕ}
 use mathlib.Core.Bool.{Bool, true, false, _&&_, Bool·beq, cond}
 use lib.Dec.{eqb}

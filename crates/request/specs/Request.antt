@@ -7,22 +7,22 @@ use Rattle.frame.specs.declared.Command.{Command}
 
 -- ---- the eight data bytes
 
--- "motor id low, high, then" a marker
+-- 'The command bytes', requests: the motor id, lowest byte first, and what follows it
 unfoldable pub addressed : ℕ → List Field → ℕ
 unfolding packed-onto little-endian
 addressed motor rest = packed (little-endian 2 motor ++ rest)
 
 unfoldable pub register-read-data : ℕ → ℕ → ℕ
 unfolding addressed bytes
-register-read-data motor rid = addressed motor (byte 0x33 ∷ (byte rid ∷ bytes 4 0))
+register-read-data motor rid = addressed motor (byte 0x33 ∷ byte rid ∷ bytes 4 0)
 
 unfoldable pub register-write-data : ℕ → ℕ → ℕ → ℕ
 unfolding addressed little-endian
-register-write-data motor rid bits = addressed motor (byte 0x55 ∷ (byte rid ∷ little-endian 4 bits))
+register-write-data motor rid bits = addressed motor (byte 0x55 ∷ byte rid ∷ little-endian 4 bits)
 
 unfoldable pub store-params-data : ℕ → ℕ
 unfolding addressed bytes
-store-params-data motor = addressed motor (byte 0xaa ∷ (byte 0x01 ∷ bytes 4 0))
+store-params-data motor = addressed motor (byte 0xaa ∷ byte 0x01 ∷ bytes 4 0)
 
 unfoldable pub feedback-request-data : ℕ → ℕ
 unfolding addressed bytes
@@ -31,11 +31,11 @@ feedback-request-data motor = addressed motor (byte 0xcc ∷ bytes 5 0)
 -- seven bytes FF and a last one
 unfoldable pub special : ℕ → ℕ
 unfolding packed-onto bytes
-special last = packed (bytes 7 0xff ++ (byte last ∷ []))
+special last = packed (bytes 7 0xff ++ byte last ∷ [])
 
 -- ---- the frames: id and data, or a refusal
 
--- "on 0x7FF"
+-- requests go to 0x7FF
 abbrev pub register-read-cmd : ℕ → ℕ → Command
 register-read-cmd motor rid = frame-for motor 0x7ff (register-read-data motor rid)
 
@@ -48,7 +48,7 @@ store-params-cmd motor = frame-for motor 0x7ff (store-params-data motor)
 abbrev pub feedback-request-cmd : ℕ → Command
 feedback-request-cmd motor = frame-for motor 0x7ff (feedback-request-data motor)
 
--- "disable, zero and clear frames, on the motor id"
+-- the others go to the motor id
 abbrev pub disable-cmd : ℕ → Command
 disable-cmd motor = frame-for motor motor (special 0xfd)
 

@@ -16,7 +16,7 @@ const CLEAR_ERROR: u64 = 0xffff_ffff_ffff_fffb;
 
 // The motor id, lowest byte first, then two bytes and a word of four.
 fn addressed(motor_id: u16, d2: u8, d3: u8, word: u32) -> u64
-    ensures { λ r. ⌜ r ≡ Spec.addressed «motor_id» (byte d2 ∷ (byte d3 ∷ (field 32 word ∷ []))) ⌝ }
+    ensures { λ r. ⌜ r ≡ Spec.addressed «motor_id» (byte d2 ∷ byte d3 ∷ field 32 word ∷ []) ⌝ }
 {
     let id = motor_id as u64;
     let head = id % 256 * 256 + id / 256;

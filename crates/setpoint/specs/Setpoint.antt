@@ -15,19 +15,19 @@ use Rattle.frame.specs.declared.Command.the-variants.{Refused}
 
 -- ---- the eight data bytes
 
--- "the codes position, velocity, kp, kd, torque packed high bit first": position 16 bits, the others 12; kp from 0 to 500, kd from 0 to 5
+-- 'The command bytes', MIT: five codes from the high bit down, 16 bits of position and 12 each of velocity, kp, kd and torque; kp goes from 0 to 500 and kd from 0 to 5
 unfoldable pub mit-data : PvTLimits → Float → Float → Float → Float → Float → ℕ
 unfolding packed-onto
 mit-data l pos vel kp kd torq =
     packed
     (field 16 (float-to-uint 16 pos (l .«p_min») (l .«p_max»))
-    ∷ (field 12 (float-to-uint 12 vel (l .«v_min») (l .«v_max»))
-    ∷ (field 12 (float-to-uint 12 kp (float 0) (float 500))
-    ∷ (field 12 (float-to-uint 12 kd (float 0) (float 5))
-    ∷ (field 12 (float-to-uint 12 torq (l .«t_min») (l .«t_max»))
-    ∷ [])))))
+    ∷ field 12 (float-to-uint 12 vel (l .«v_min») (l .«v_max»))
+    ∷ field 12 (float-to-uint 12 kp (float 0) (float 500))
+    ∷ field 12 (float-to-uint 12 kd (float 0) (float 5))
+    ∷ field 12 (float-to-uint 12 torq (l .«t_min») (l .«t_max»))
+    ∷ [])
 
--- "floats little-endian". A float that travels unchanged is its 32 bits
+-- position-velocity and velocity: a float that travels unchanged is its 32 bits, lowest byte first
 unfoldable pub pos-vel-data : ℕ → ℕ → ℕ
 unfolding packed-onto little-endian
 pos-vel-data pos vlim = packed (little-endian 4 pos ++ little-endian 4 vlim)
@@ -40,10 +40,10 @@ vel-data vel = packed (little-endian 4 vel ++ bytes 4 0)
 unfoldable pub scaled : Float → ℕ → ℕ → ℕ
 scaled x most scale = toUnsigned 16 (clip x (float 0) (float most) ⊗ float scale)
 
--- "velocity limit clipped to 0..100 times 100, ratio to 0..1 times 10,000, 16 bits little-endian"
+-- force-position: the position's bits, then the velocity limit in hundredths and the torque ratio in ten-thousandths, each two bytes, lowest first
 unfoldable pub force-pos-data : ℕ → Float → Float → ℕ
 unfolding packed-onto little-endian
-force-pos-data pos vlim ratio = packed (little-endian 4 pos ++ (little-endian 2 (scaled vlim 100 100) ++ little-endian 2 (scaled ratio 1 10000)))
+force-pos-data pos vlim ratio = packed (little-endian 4 pos ++ little-endian 2 (scaled vlim 100 100) ++ little-endian 2 (scaled ratio 1 10000))
 
 -- ---- the frames: id and data, or a refusal
 
@@ -52,11 +52,11 @@ abbrev pub with-limits : Limits → (PvTLimits → Command) → Command
 with-limits (Accepted l) f = f l
 with-limits (BadLimits n) f = Refused n
 
--- "MIT frame on the motor id"; refusals 1, then 2
+-- MIT goes to the motor id; refusals 1, then 2
 unfoldable pub mit-cmd : ℕ → Float → Float → Float → Float → Float → Float → Float → Float → Command
 mit-cmd motor p v t pos vel kp kd torq = with-limits (limits-of p v t) (λ l. frame-for motor motor (mit-data l pos vel kp kd torq))
 
--- "position-velocity, velocity and force-position go on 0x100, 0x200, 0x300 plus motor id"
+-- the other three go to the motor id moved up by 0x100, 0x200 and 0x300
 abbrev pub pos-vel-cmd : ℕ → ℕ → ℕ → Command
 pos-vel-cmd motor pos vlim = frame-for motor (0x100 + motor) (pos-vel-data pos vlim)
 

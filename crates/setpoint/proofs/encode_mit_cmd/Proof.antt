@@ -65,7 +65,7 @@ add-result-3 : tie.Need-add-result-3
 add-result-3 c = search needs
 
 -- the five codes, each cut to its width
-joined : (p v k d t : ℕ) → (((p % 65536 * 4096 + v % 4096) * 4096 + k % 4096) * 4096 + d % 4096) * 4096 + t % 4096 ≡ packed (field 16 p ∷ (field 12 v ∷ (field 12 k ∷ (field 12 d ∷ (field 12 t ∷ [])))))
+joined : (p v k d t : ℕ) → (((p % 65536 * 4096 + v % 4096) * 4096 + k % 4096) * 4096 + d % 4096) * 4096 + t % 4096 ≡ packed (field 16 p ∷ field 12 v ∷ field 12 k ∷ field 12 d ∷ field 12 t ∷ [])
 unfolding packed-onto
 joined p v k d t = omega arith
 
