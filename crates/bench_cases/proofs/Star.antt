@@ -20,8 +20,9 @@ unfolding div ofInt neg le sub mul add toUnsigned clip limits-of limit-accepted 
 star = record {
   mit-all-zero = refl;
   mit-all-at-maximum = refl;
-  feedback-at-minimum = refl;
-  status-one = refl;
+  feedback-decoded = refl;
+      feedback-sorted = refl;
+  feedback-status = refl;
   register-ten = refl;
   d1-too-high = refl;
   d3-unknown = refl;

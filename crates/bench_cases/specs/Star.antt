@@ -14,6 +14,7 @@ use Rattle.frame.specs.declared.Command.the-variants.{Frame}
 use Rattle.received.specs.declared.feedback.FrameClass.the-variants as Class
 use Rattle.received.specs.declared.feedback.Decoded.the-variants as Decode
 use Rattle.received.specs.declared.feedback.Received.the-variants as Receive
+use Rattle.received.specs.declared.feedback.SensorFeedback.{SensorFeedback}
 use Rattle.received.specs.declared.status.StatusName.the-variants.{Enabled}
 
 -- model 4310's limits: 12.5, 30, 10
@@ -32,12 +33,19 @@ zero = float 0
 abbrev pub frame : ℕ → ℕ → ℕ → ℕ → ℕ → ℕ → ℕ → ℕ → List ℕ
 frame a b c d e f g h = a ∷ b ∷ c ∷ d ∷ e ∷ f ∷ g ∷ h ∷ []
 
+-- 11 00 00 00 00 00 1E 28, and what it says: motor 1, status 1, each value at its minimum, 30 and 40 degrees
+abbrev pub at-minimum : List ℕ
+at-minimum = frame 0x11 0x00 0x00 0x00 0x00 0x00 0x1E 0x28
+
+abbrev pub minimum : SensorFeedback
+minimum = record { «can_id» = 1; «status_code» = 1; pos = neg p; vel = neg v; torq = neg t; «t_mos» = float 30; «t_rotor» = float 40 }
+
 pub record Star : Type 0 where
   pub mit-all-zero : mit-cmd 1 p v t zero zero zero zero zero ≡ Frame 1 0x7FFF_7FF0_0000_07FF
   pub mit-all-at-maximum : mit-cmd 1 p v t p v (float 500) (float 5) t ≡ Frame 1 0xFFFF_FFFF_FFFF_FFFF
-  pub feedback-at-minimum : decoded p v t (frame 0x11 0x00 0x00 0x00 0x00 0x00 0x1E 0x28)
-      ≡ Decode.Feedback (record { «can_id» = 1; «status_code» = 1; pos = neg p; vel = neg v; torq = neg t; «t_mos» = float 30; «t_rotor» = float 40 })
-  pub status-one : status-name 1 ≡ Enabled
+  pub feedback-decoded : decoded p v t at-minimum ≡ Decode.Feedback minimum
+  pub feedback-sorted : received (from-maxima p v t) at-minimum ≡ Receive.Feedback minimum
+  pub feedback-status : status-name (minimum .«status_code») ≡ Enabled
   pub register-ten : received (from-maxima p v t) (frame 0x11 0x0F 0x33 0x0A 0x01 0x00 0x00 0x00) ≡ Receive.Reply 10 (UInt32 1)
   pub d1-too-high : class-of (frame 0x11 0x10 0x33 0x0A 0x01 0x00 0x00 0x00) ≡ Class.Feedback
   pub d3-unknown : class-of (frame 0x11 0x0F 0x33 0x25 0x01 0x00 0x00 0x00) ≡ Class.Feedback

@@ -7,8 +7,8 @@ use native.Mathlib.Numerals.{add-one}
 use lib.Ieee.{binary32, ofBits, ofInt, div, le}
 use Rattle.motor_core.specs.Model.{limits-of, limit-accepted}
 use Rattle.motor_core.specs.declared.model.PvTLimits.{PvTLimits}
-use Rattle.motor_core.specs.declared.model.Limits.{Limits}
-use Rattle.motor_core.specs.declared.model.Limits.the-variants.{Accepted, Refused}
+use Rattle.motor_core.specs.declared.model.LimitCheck.{LimitCheck}
+use Rattle.motor_core.specs.declared.model.LimitCheck.the-variants.{Accepted, Refused}
 use Rattle.bench_loops.specs.Loops.{total, limits-4310}
 
 pub one-more : {A : Type 0} (plus : A → A → A) (none : A) (f : ℕ → A) (n : ℕ) (sum next : A)

@@ -5,7 +5,7 @@ ghost use Prim.Native.Nat.{_+_, _*_, _≤_};
 ghost use lib.ListN.{length};
 ghost use Rattle.frame.specs.Codes.{float};
 ghost use Rattle.bench_loops.specs.Loops as Spec;
-use motor_core::model::Limits;
+use motor_core::model::LimitCheck;
 use motor_core::model::PvTLimits;
 use received::feedback::FrameClass;
 use received::feedback::SensorFeedback;
@@ -94,8 +94,8 @@ pub extern "C" fn bench_loops_encode_mit(xs: &[f32]) -> u64
 {
     let made = motor_core::model::from_maxima(12.5, 30.0, 10.0);
     match made {
-        Limits::Accepted(limits) => mit_total(xs, limits),
-        Limits::Refused(_) => 0,
+        LimitCheck::Accepted(limits) => mit_total(xs, limits),
+        LimitCheck::Refused(_) => 0,
     }
 }
 
@@ -106,8 +106,8 @@ pub extern "C" fn bench_loops_decode_feedback(frames: &[u8]) -> f32
 {
     let made = motor_core::model::from_maxima(12.5, 30.0, 10.0);
     match made {
-        Limits::Accepted(limits) => feedback_total(frames, limits),
-        Limits::Refused(_) => 0.0,
+        LimitCheck::Accepted(limits) => feedback_total(frames, limits),
+        LimitCheck::Refused(_) => 0.0,
     }
 }
 

@@ -20,17 +20,3 @@ pub(crate) fn bits(x: u64) -> F32Bits {
 pub(crate) fn real(x: u64) -> f32 {
     float::of_bits(bits(x))
 }
-
-// A frame's bytes, d0 the highest of the number.
-pub(crate) fn data_bytes(x: u64) -> [u8; 8] {
-    [
-        low8(x / 0x100_0000_0000_0000),
-        low8(x / 0x1_0000_0000_0000),
-        low8(x / 0x100_0000_0000),
-        low8(x / 0x1_0000_0000),
-        low8(x / 0x100_0000),
-        low8(x / 0x1_0000),
-        low8(x / 0x100),
-        low8(x),
-    ]
-}

@@ -1,6 +1,5 @@
 // The calls on what a frame says, and on the tables of status names and registers.
 use crate::commands::put_refused;
-use crate::fields::data_bytes;
 use crate::fields::low8;
 use crate::fields::real;
 use received::feedback::Decoded;
@@ -28,11 +27,11 @@ pub(crate) fn answer(call: Call, output: &mut [u8], to: usize) -> usize {
 
 fn decoded(call: Call) -> Decoded {
     let a = call.args;
-    received::feedback::decode_feedback(real(a[0]), real(a[1]), real(a[2]), data_bytes(a[3]))
+    received::feedback::decode_feedback(real(a[0]), real(a[1]), real(a[2]), frame::data_bytes(a[3]))
 }
 
 fn class(data: u64) -> FrameClass {
-    received::feedback::frame_class(data_bytes(data))
+    received::feedback::frame_class(frame::data_bytes(data))
 }
 
 fn put_decoded(decoded: Decoded, output: &mut [u8], to: usize) -> usize {
@@ -74,7 +73,7 @@ fn put_class(class: FrameClass, output: &mut [u8], to: usize) -> usize {
 }
 
 fn put_status(status: u8, output: &mut [u8], to: usize) -> usize {
-    let name = received::status::text(received::status::name_of(status));
+    let name = received::status::status_text(received::status::status_name(status));
     let bytes = name.bytes;
     let at = put(output, to, b"status ");
     put_name(&bytes, name.len as usize, output, at)

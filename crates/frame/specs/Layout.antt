@@ -35,3 +35,15 @@ bytes (suc k) n = byte n ∷ bytes k n
 -- d0 to d7 of a frame's data
 abbrev pub data-byte : ℕ → ℕ → ℕ
 data-byte n k = n / 256 ^ (7 - k) % 256
+
+unfoldable pub data-bytes : ℕ → List ℕ
+data-bytes n =
+    data-byte n 0
+    ∷ data-byte n 1
+    ∷ data-byte n 2
+    ∷ data-byte n 3
+    ∷ data-byte n 4
+    ∷ data-byte n 5
+    ∷ data-byte n 6
+    ∷ data-byte n 7
+    ∷ []

@@ -8,8 +8,8 @@ use lib.Ieee.{Float}
 use Rattle.motor_core.specs.Error.{limit}
 use Rattle.motor_core.specs.Model.{limit-accepted, from-maxima, limits-of}
 use Rattle.motor_core.specs.declared.model.PvTLimits.{PvTLimits}
-use Rattle.motor_core.specs.declared.model.Limits.{Limits}
-use Rattle.motor_core.specs.declared.model.Limits.the-variants.{Accepted, Refused}
+use Rattle.motor_core.specs.declared.model.LimitCheck.{LimitCheck}
+use Rattle.motor_core.specs.declared.model.LimitCheck.the-variants.{Accepted, Refused}
 
 pub record Taken (p v t : Float) (l : PvTLimits) : Type 0 where
   pub position : T (limit-accepted p)

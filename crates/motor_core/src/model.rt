@@ -12,7 +12,7 @@ pub struct PvTLimits {
     pub t_max: f32,
 }
 
-pub enum Limits {
+pub enum LimitCheck {
     Accepted(PvTLimits),
     Refused(u8),
 }
@@ -25,19 +25,19 @@ pub fn accepts_limit(max: f32) -> bool
 }
 
 // The six limits from the three maxima, each minimum the negative of its maximum.
-pub fn from_maxima(p_max: f32, v_max: f32, t_max: f32) -> Limits
+pub fn from_maxima(p_max: f32, v_max: f32, t_max: f32) -> LimitCheck
     ensures { λ r. ⌜ r ≡ limits-of «p_max» «v_max» «t_max» ⌝ }
 {
     if !accepts_limit(p_max) {
-        return Limits::Refused(LIMIT);
+        return LimitCheck::Refused(LIMIT);
     }
     if !accepts_limit(v_max) {
-        return Limits::Refused(LIMIT);
+        return LimitCheck::Refused(LIMIT);
     }
     if !accepts_limit(t_max) {
-        return Limits::Refused(LIMIT);
+        return LimitCheck::Refused(LIMIT);
     }
-    Limits::Accepted(PvTLimits {
+    LimitCheck::Accepted(PvTLimits {
         p_min: -p_max,
         p_max,
         v_min: -v_max,

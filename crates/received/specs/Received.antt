@@ -1,14 +1,15 @@
 -- What a received frame says. Its data bytes d0 to d7 are a list. Definitions only.
 use Prim.Native.Nat.{ℕ, _+_, _*_, _/_, _%_}
-use mathlib.Core.Bool.{Bool, _&&_, cond}
+use mathlib.Core.Bool.{Bool, not, _&&_, _||_, cond}
 use mathlib.Core.List.{List}
-use lib.Dec.{leb, eqb}
+use lib.Dec.{leb, ltb, eqb}
 use lib.ListN.{getD}
 use lib.Ieee.{Float}
 use Rattle.motor_core.specs.Model.{limits-of}
+use Rattle.motor_core.specs.declared.bus.CanFrame.{CanFrame}
 use Rattle.motor_core.specs.declared.model.PvTLimits.{PvTLimits}
-use Rattle.motor_core.specs.declared.model.Limits.{Limits}
-use Rattle.motor_core.specs.declared.model.Limits.the-variants.{Accepted, Refused as BadLimits}
+use Rattle.motor_core.specs.declared.model.LimitCheck.{LimitCheck}
+use Rattle.motor_core.specs.declared.model.LimitCheck.the-variants.{Accepted, Refused as BadLimits}
 use Rattle.registers.specs.Registers.{registers, elem, data-type-of}
 use Rattle.registers.specs.Value.{value-of}
 use Rattle.registers.specs.declared.RegisterValue.{RegisterValue}
@@ -27,9 +28,9 @@ d bytes k = getD bytes k 0
 
 -- 'The feedback on the screen', sorting, over any list of registers: a reply has the marker 0x33 in d2, an ack 0x55; both have d1 up to 0x0F and a listed register in d3. Every other frame is feedback
 unfoldable pub class : List ℕ → ℕ → ℕ → ℕ → FrameClass
-class known d1 d2 d3 =
-    cond (leb d1 0x0f && (eqb d2 0x33 && elem d3 known)) Class.Reply
-    (cond (leb d1 0x0f && (eqb d2 0x55 && elem d3 known)) Class.Ack
+class rids d1 d2 d3 =
+    cond (leb d1 0x0f && (eqb d2 0x33 && elem d3 rids)) Class.Reply
+    (cond (leb d1 0x0f && (eqb d2 0x55 && elem d3 rids)) Class.Ack
     Class.Feedback)
 
 abbrev pub class-of : List ℕ → FrameClass
@@ -47,13 +48,19 @@ feedback-of l bytes = record {
   «t_rotor» = float (d bytes 7);
 }
 
-abbrev pub by-limits : Limits → List ℕ → Decoded
+abbrev pub by-limits : LimitCheck → List ℕ → Decoded
 by-limits (Accepted l) bytes = Decode.Feedback (feedback-of l bytes)
 by-limits (BadLimits n) bytes = Decode.Refused n
 
 -- any eight bytes as feedback; refusal 1
 unfoldable pub decoded : Float → Float → Float → List ℕ → Decoded
 decoded p v t bytes = by-limits (limits-of p v t) bytes
+
+-- the same, `accepts_frame`: not extended, and on the feedback id, or with data and the motor's low four bits in d0
+unfoldable pub accepted : ℕ → ℕ → CanFrame → Bool
+accepted motor feedback f =
+    not (f .«is_extended»)
+    && (eqb (f .«arbitration_id») feedback || (ltb 0 (f .dlc) && eqb (d (f .«data») 0 % 16) (motor % 16)))
 
 -- the register's value in d4 to d7, lowest byte first, by the type of the register in d3
 unfoldable pub register-value : List ℕ → RegisterValue

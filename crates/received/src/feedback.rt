@@ -1,13 +1,14 @@
 // What a received frame says: its class, the feedback in it, or a register and its value.
 ghost use mathlib.Core.Path.{_≡_};
-ghost use Prim.Native.Nat.{_+_, _*_};
+ghost use Prim.Native.Nat.{_+_, _*_, _^_, _<_};
 ghost use mathlib.Core.Bool.{true, _&&_, _||_};
 ghost use lib.Dec.{leb, eqb};
 ghost use Rattle.registers.specs.Registers.{known};
 ghost use Rattle.frame.specs.Codes.{float, uint-to-float, bits-in};
 ghost use Rattle.received.specs.Received as Spec;
 use frame::Width;
-use motor_core::model::Limits;
+use motor_core::bus::CanFrame;
+use motor_core::model::LimitCheck;
 use motor_core::model::PvTLimits;
 use registers::RegisterInfo;
 use registers::RegisterValue;
@@ -42,6 +43,7 @@ pub enum Received {
 
 // What a code stands for, from x_min to x_max.
 fn uint_to_float(x: u16, x_min: f32, x_max: f32, width: Width) -> f32
+    requires { ⌜ x < 2 ^ bits-in width ⌝ }
     ensures { λ r. ⌜ r ≡ uint-to-float (bits-in width) x «x_min» «x_max» ⌝ }
 {
     let span = x_max - x_min;
@@ -50,7 +52,7 @@ fn uint_to_float(x: u16, x_min: f32, x_max: f32, width: Width) -> f32
 
 // Two bytes as one number, the first the higher.
 fn joined(high: u8, low: u8) -> u16
-    ensures { λ r. ⌜ r ≡ high * 256 + low ⌝ }
+    ensures { λ r. ⌜ (r ≡ high * 256 + low) × (low < 256) ⌝ }
 {
     (high as u16) * 256 + (low as u16)
 }
@@ -86,6 +88,20 @@ pub fn frame_class(data: [u8; 8]) -> FrameClass
     }
 }
 
+// Whether a frame may be this motor's: four bits of the address are compared, as in the Rust.
+pub fn accepts_frame(frame: CanFrame, motor_id: u16, feedback_id: u16) -> bool
+    ensures { λ r. ⌜ r ≡ Spec.accepted «motor_id» «feedback_id» frame ⌝ }
+{
+    if frame.is_extended {
+        return false;
+    }
+    if frame.arbitration_id == (feedback_id as u32) {
+        return true;
+    }
+    let data = frame.data;
+    frame.dlc > 0 && ((data[0] % 16) as u16) == motor_id % 16
+}
+
 pub fn decode_sensor_feedback(data: [u8; 8], limits: PvTLimits) -> SensorFeedback
     ensures { λ r. ⌜ r ≡ Spec.feedback-of limits «data» ⌝ }
 {
@@ -108,8 +124,8 @@ pub fn decode_feedback(p_max: f32, v_max: f32, t_max: f32, data: [u8; 8]) -> Dec
 {
     let made = motor_core::model::from_maxima(p_max, v_max, t_max);
     match made {
-        Limits::Refused(n) => Decoded::Refused(n),
-        Limits::Accepted(limits) => Decoded::Feedback(decode_sensor_feedback(data, limits)),
+        LimitCheck::Refused(n) => Decoded::Refused(n),
+        LimitCheck::Accepted(limits) => Decoded::Feedback(decode_sensor_feedback(data, limits)),
     }
 }
 

@@ -17,7 +17,7 @@ pub enum StatusName {
     Unknown,
 }
 
-pub fn name_of(status: u8) -> StatusName
+pub fn status_name(status: u8) -> StatusName
     ensures { λ r. ⌜ r ≡ status-name status ⌝ }
 {
     match status {
@@ -35,7 +35,7 @@ pub fn name_of(status: u8) -> StatusName
     }
 }
 
-pub fn text(name: StatusName) -> Name
+pub fn status_text(name: StatusName) -> Name
     ensures { λ r. ⌜ r ≡ name-of (spelt name) ⌝ }
 {
     match name {

@@ -6,9 +6,9 @@ ghost use Rattle.request.specs.Request as Spec;
 use frame::Command;
 
 // Where register and store commands and feedback requests go.
-pub const REGISTER_ID: u32 = 0x7ff;
+const REGISTER_ID: u32 = 0x7ff;
 
-pub const DISABLE: u64 = 0xffff_ffff_ffff_fffd;
+const DISABLE: u64 = 0xffff_ffff_ffff_fffd;
 
 const SET_ZERO: u64 = 0xffff_ffff_ffff_fffe;
 

@@ -6,9 +6,9 @@ use mathlib.Core.Bool.{Bool, true, false, cond, _||_}
 use mathlib.Core.List.{List, [], _∷_}
 use lib.ListN.{length, set, replicate}
 use lib.Dec.{ltb, eqb}
-use Rattle.words.specs.Number.{fieldOf}
+use Rattle.words.specs.Number.{field-of}
 use Rattle.text.specs.Ascii.{ascii}
-use Rattle.words.specs.Word.{indexOf, same, split}
+use Rattle.words.specs.Word.{index-of, same, split}
 use Rattle.words.specs.declared.Read.{Read}
 use Rattle.words.specs.declared.Read.the-variants.{Value, Bad}
 use Rattle.script.specs.declared.Call.{Call}
@@ -59,49 +59,49 @@ calls =
 abbrev pub plain : ℕ → Call
 plain code = record { code = code; args = replicate 9 0 }
 
-abbrev pub badCall : Call
-badCall = plain 254
+abbrev pub bad-call : Call
+bad-call = plain 254
 
 -- a line that writes nothing
-abbrev pub noCall : Call
-noCall = plain 255
+abbrev pub no-call : Call
+no-call = plain 255
 
-abbrev pub withValue : Read → (ℕ → Call) → Call
-withValue (Value n) next = next n
-withValue Bad next = badCall
+abbrev pub with-value : Read → (ℕ → Call) → Call
+with-value (Value n) next = next n
+with-value Bad next = bad-call
 
 -- the words as the arguments from place i on, one for each kind, nine at most
-unfoldable pub fieldsOf : List ℕ → List (List ℕ) → ℕ → ℕ → List ℕ → Call
-fieldsOf [] [] code i args = record { code = code; args = args }
-fieldsOf [] (word ∷ words) code i args = badCall
-fieldsOf (kind ∷ kinds) [] code i args = badCall
-fieldsOf (kind ∷ kinds) (word ∷ words) code i args =
+unfoldable pub fields-of : List ℕ → List (List ℕ) → ℕ → ℕ → List ℕ → Call
+fields-of [] [] code i args = record { code = code; args = args }
+fields-of [] (word ∷ words) code i args = bad-call
+fields-of (kind ∷ kinds) [] code i args = bad-call
+fields-of (kind ∷ kinds) (word ∷ words) code i args =
     cond (ltb i 9)
-    (withValue (fieldOf kind word) (λ n. fieldsOf kinds words code (suc i) (set args i n)))
-    badCall
+    (with-value (field-of kind word) (λ n. fields-of kinds words code (suc i) (set args i n)))
+    bad-call
 
 -- the call of the first row that has this word
-unfoldable pub callFrom : List (List ℕ) → List ℕ → List (List ℕ) → ℕ → Call
-callFrom [] word words code = badCall
-callFrom (name ∷ []) word words code = badCall
-callFrom (name ∷ (kinds ∷ rows)) word words code =
-    cond (same name word) (fieldsOf kinds words code 0 (replicate 9 0)) (callFrom rows word words (suc code))
+unfoldable pub call-from : List (List ℕ) → List ℕ → List (List ℕ) → ℕ → Call
+call-from [] word words code = bad-call
+call-from (name ∷ []) word words code = bad-call
+call-from (name ∷ (kinds ∷ rows)) word words code =
+    cond (same name word) (fields-of kinds words code 0 (replicate 9 0)) (call-from rows word words (suc code))
 
-unfoldable pub callOf : List (List ℕ) → List (List ℕ) → Call
-callOf rows [] = badCall
-callOf rows (word ∷ words) = callFrom rows word words 0
+unfoldable pub call-of : List (List ℕ) → List (List ℕ) → Call
+call-of rows [] = bad-call
+call-of rows (word ∷ words) = call-from rows word words 0
 
 abbrev pub has : ℕ → List ℕ → Bool
-has b s = ltb (indexOf b s) (length s)
+has b s = ltb (index-of b s) (length s)
 
-abbrev pub passedOver : List ℕ → Bool
-passedOver [] = true
-passedOver (b ∷ rest) = eqb b (code "#")
+abbrev pub passed-over : List ℕ → Bool
+passed-over [] = true
+passed-over (b ∷ rest) = eqb b (code "#")
 
--- a line of more than 4,095 ascii is bad whatever it begins with; so is one with a tab or a carriage return that is not passed over
+-- a line of more than 4,095 bytes is bad whatever it begins with; so is one with a tab or a carriage return that is not passed over
 unfoldable pub parsed : List ℕ → Call
 parsed line =
-    cond (ltb 4095 (length line)) badCall
-    (cond (passedOver line) noCall
-    (cond (has 9 line || has 13 line) badCall
-    (callOf calls (split line))))
+    cond (ltb 4095 (length line)) bad-call
+    (cond (passed-over line) no-call
+    (cond (has 9 line || has 13 line) bad-call
+    (call-of calls (split line))))

@@ -7,8 +7,8 @@ use words::index_of;
 use words::same_bytes;
 ghost use mathlib.Core.Path.{_≡_};
 ghost use lib.ListN.{replicate};
-ghost use Rattle.words.specs.Word.{split, wordsFrom};
-ghost use Rattle.script.specs.Line.{plain, fieldsOf, callOf, parsed};
+ghost use Rattle.words.specs.Word.{split, words-from};
+ghost use Rattle.script.specs.Line.{plain, fields-of, call-of, parsed};
 
 // A call's code is its row's place in the table.
 pub const START_LIMITS: u64 = 0;
@@ -140,7 +140,7 @@ fn bare(code: u64) -> Call
 
 // The words of `line` from `at` on as the arguments of a call, one for each kind.
 fn fields(kinds: &[u8], line: &[u8], at: usize, code: u64) -> Call
-    ensures { λ r. ⌜ r ≡ fieldsOf (now (kinds .entry)) (wordsFrom (now (line .entry)) at) code 0 (replicate 9 0) ⌝ }
+    ensures { λ r. ⌜ r ≡ fields-of (now (kinds .entry)) (words-from (now (line .entry)) at) code 0 (replicate 9 0) ⌝ }
 {
     let mut args = [0u64; 9];
     let mut from = at;
@@ -169,7 +169,7 @@ fn fields(kinds: &[u8], line: &[u8], at: usize, code: u64) -> Call
 // The call of the first row of `table` that has the line's first word. A row is two words, the call's
 // and its kinds.
 fn call_by(table: &[u8], line: &[u8]) -> Call
-    ensures { λ r. ⌜ r ≡ callOf (split (now (table .entry))) (split (now (line .entry))) ⌝ }
+    ensures { λ r. ⌜ r ≡ call-of (split (now (table .entry))) (split (now (line .entry))) ⌝ }
 {
     let end = index_of(line, 0, b' ');
     let mut at = 0;

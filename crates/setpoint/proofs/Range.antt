@@ -13,7 +13,7 @@ use Rattle.float.specs.Float.{clip}
 use Rattle.float.proofs.AtMost.{clip-at-most, mul-at-most, cut-at-most}
 use Rattle.motor_core.specs.Model.{limit-accepted, limits-of}
 use Rattle.motor_core.specs.declared.model.PvTLimits.{PvTLimits}
-use Rattle.motor_core.specs.declared.model.Limits.the-variants.{Accepted}
+use Rattle.motor_core.specs.declared.model.LimitCheck.the-variants.{Accepted}
 use Rattle.motor_core.proofs.Limits.{accepted-limits}
 use Rattle.frame.specs.Codes.{float, float-to-uint}
 use Rattle.frame.proofs.Range.{range, ofInt-is}

@@ -5,8 +5,8 @@ use lib.Ieee.{Float, toUnsigned}
 use Rattle.float.specs.Float.{clip}
 use Rattle.motor_core.specs.Model.{limits-of}
 use Rattle.motor_core.specs.declared.model.PvTLimits.{PvTLimits}
-use Rattle.motor_core.specs.declared.model.Limits.{Limits}
-use Rattle.motor_core.specs.declared.model.Limits.the-variants.{Accepted, Refused as BadLimits}
+use Rattle.motor_core.specs.declared.model.LimitCheck.{LimitCheck}
+use Rattle.motor_core.specs.declared.model.LimitCheck.the-variants.{Accepted, Refused as BadLimits}
 use Rattle.frame.specs.Codes.{float, _⊗_, float-to-uint}
 use Rattle.frame.specs.Layout.{field, packed, packed-onto, little-endian, bytes}
 use Rattle.frame.specs.Command.{frame-for}
@@ -48,7 +48,7 @@ force-pos-data pos vlim ratio = packed (little-endian 4 pos ++ little-endian 2 (
 -- ---- the frames: id and data, or a refusal
 
 -- refused as the limits are, or made with them
-abbrev pub with-limits : Limits → (PvTLimits → Command) → Command
+abbrev pub with-limits : LimitCheck → (PvTLimits → Command) → Command
 with-limits (Accepted l) f = f l
 with-limits (BadLimits n) f = Refused n
 

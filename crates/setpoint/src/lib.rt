@@ -6,7 +6,7 @@ ghost use Rattle.setpoint.specs.Setpoint as Spec;
 use float::F32Bits;
 use frame::Command;
 use frame::Width;
-use motor_core::model::Limits;
+use motor_core::model::LimitCheck;
 use motor_core::model::PvTLimits;
 
 const KP_MAX: f32 = 500.0;
@@ -98,8 +98,8 @@ pub fn mit_cmd(
 {
     let made = motor_core::model::from_maxima(p_max, v_max, t_max);
     match made {
-        Limits::Refused(n) => Command::Refused(n),
-        Limits::Accepted(limits) => frame::frame_for(
+        LimitCheck::Refused(n) => Command::Refused(n),
+        LimitCheck::Accepted(limits) => frame::frame_for(
             motor_id,
             motor_id as u32,
             encode_mit_cmd(

@@ -12,12 +12,12 @@ abbrev pub fitting : List ℕ → ℕ → List ℕ → ℕ
 fitting buffer at text = min (length text) (length buffer - at)
 
 -- the buffer with those bytes at that place
-unfoldable pub putAt : List ℕ → ℕ → List ℕ → List ℕ
-putAt buffer at text = paste buffer at text (fitting buffer at text)
+unfoldable pub put-at : List ℕ → ℕ → List ℕ → List ℕ
+put-at buffer at text = paste buffer at text (fitting buffer at text)
 
 -- the place after them
-unfoldable pub placeAfter : List ℕ → ℕ → List ℕ → ℕ
-placeAfter buffer at text = at + fitting buffer at text
+unfoldable pub place-after : List ℕ → ℕ → List ℕ → ℕ
+place-after buffer at text = at + fitting buffer at text
 
 unfoldable pub glyph : ℕ → ℕ
 glyph d = cond (ltb d 10) (code "0" + d) (code "A" + (d - 10))

@@ -2,12 +2,12 @@
 ghost use mathlib.Core.Path.{_≡_};
 ghost use Prim.Native.Nat.{_≤_, _<_, min};
 ghost use lib.ListN.{length, take, drop};
-ghost use Rattle.text.specs.Text.{putAt, placeAfter, digits, trimmed, decimal, hexadecimal};
+ghost use Rattle.text.specs.Text.{put-at, place-after, digits, trimmed, decimal, hexadecimal};
 ghost use Rattle.text.specs.Text.{glyph as Text·glyph};
 
 // Puts `text` into `out` from `at` on, and answers the place after it.
 pub fn put(out: &mut [u8], at: usize, text: &[u8]) -> usize
-    ensures { λ r. ⌜ (now (out .exit) ≡ putAt (now (out .entry)) at (now (text .entry))) × (r ≡ placeAfter (now (out .entry)) at (now (text .entry))) ⌝ }
+    ensures { λ r. ⌜ (now (out .exit) ≡ put-at (now (out .entry)) at (now (text .entry))) × (r ≡ place-after (now (out .entry)) at (now (text .entry))) ⌝ }
 {
     let mut i = 0;
     let mut to = at;
@@ -24,7 +24,7 @@ pub fn put(out: &mut [u8], at: usize, text: &[u8]) -> usize
 
 // Puts `n` in decimal.
 pub fn put_decimal(out: &mut [u8], at: usize, n: u64) -> usize
-    ensures { λ r. ⌜ (now (out .exit) ≡ putAt (now (out .entry)) at (decimal n)) × (r ≡ placeAfter (now (out .entry)) at (decimal n)) ⌝ }
+    ensures { λ r. ⌜ (now (out .exit) ≡ put-at (now (out .entry)) at (decimal n)) × (r ≡ place-after (now (out .entry)) at (decimal n)) ⌝ }
 {
     let mut text = [0u8; 20];
     spell(n, 10, 20, &mut text);
@@ -34,7 +34,7 @@ pub fn put_decimal(out: &mut [u8], at: usize, n: u64) -> usize
 
 // Puts the last `width` hexadecimal digits of `n`, sixteen at most, in capitals.
 pub fn put_hex(out: &mut [u8], at: usize, n: u64, width: usize) -> usize
-    ensures { λ r. ⌜ (now (out .exit) ≡ putAt (now (out .entry)) at (hexadecimal width n)) × (r ≡ placeAfter (now (out .entry)) at (hexadecimal width n)) ⌝ }
+    ensures { λ r. ⌜ (now (out .exit) ≡ put-at (now (out .entry)) at (hexadecimal width n)) × (r ≡ place-after (now (out .entry)) at (hexadecimal width n)) ⌝ }
 {
     let mut text = [0u8; 16];
     let k = least(width, 16);

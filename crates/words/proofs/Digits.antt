@@ -10,22 +10,22 @@ use lib.ListN.{length, getD, drop, drop-of-length-le}
 use lib.Seq.{drop-cons}
 use lib.Dec.{ltb}
 use borrow.Author.Tests.{le-leb, lt-leb, lt-ltb, le-ltb}
-use Rattle.words.specs.Number.{between, digitOf, allDigits, valueOf, digitsAfter, digitsOf}
+use Rattle.words.specs.Number.{between, digit-of, all-digits, value-of, digits-after, digits-of}
 use Rattle.words.specs.declared.Read.{Read}
 use Rattle.words.specs.declared.Read.the-variants.{Value, Bad}
 use Rattle.words.proofs.Words.{and-false}
 
 -- ---- a digit, by the range that it lies in
-pub decimal : (b : ℕ) → 48 ≤ b → b ≤ 57 → digitOf b ≡ b - 48
-unfolding digitOf
+pub decimal : (b : ℕ) → 48 ≤ b → b ≤ 57 → digit-of b ≡ b - 48
+unfolding digit-of
 decimal b h k = simp (le-leb 48 b h, le-leb b 57 k)
 
-pub capital : (b : ℕ) → 65 ≤ b → b ≤ 70 → digitOf b ≡ b - 65 + 10
-unfolding digitOf
+pub capital : (b : ℕ) → 65 ≤ b → b ≤ 70 → digit-of b ≡ b - 65 + 10
+unfolding digit-of
 capital b h k = simp (lt-leb b 57 (omega arith), and-false, le-leb 65 b h, le-leb b 70 k)
 
-pub small : (b : ℕ) → 97 ≤ b → b ≤ 102 → digitOf b ≡ b - 97 + 10
-unfolding digitOf
+pub small : (b : ℕ) → 97 ≤ b → b ≤ 102 → digit-of b ≡ b - 97 + 10
+unfolding digit-of
 small b h k = simp (lt-leb b 57 (omega arith), and-false, lt-leb b 70 (omega arith), le-leb 97 b h, le-leb b 102 k)
 
 under : (low high b : ℕ) → b < low → between low high b ≡ false
@@ -34,58 +34,58 @@ under low high b h = simp (lt-leb low b h)
 over : (low high b : ℕ) → high < b → between low high b ≡ false
 over low high b h = simp (lt-leb b high h, and-false)
 
-apart : (b : ℕ) → between 48 57 b ≡ false → between 65 70 b ≡ false → between 97 102 b ≡ false → digitOf b ≡ 16
-unfolding digitOf
+apart : (b : ℕ) → between 48 57 b ≡ false → between 65 70 b ≡ false → between 97 102 b ≡ false → digit-of b ≡ 16
+unfolding digit-of
 apart b h k l = simp (h, k, l)
 
-pub before : (b : ℕ) → b < 48 → digitOf b ≡ 16
+pub before : (b : ℕ) → b < 48 → digit-of b ≡ 16
 before b h = apart b (under 48 57 b h) (under 65 70 b (omega arith)) (under 97 102 b (omega arith))
 
-pub amid : (b : ℕ) → 57 < b → b < 65 → digitOf b ≡ 16
+pub amid : (b : ℕ) → 57 < b → b < 65 → digit-of b ≡ 16
 amid b h k = apart b (over 48 57 b h) (under 65 70 b k) (under 97 102 b (omega arith))
 
-pub amid-2 : (b : ℕ) → 70 < b → b < 97 → digitOf b ≡ 16
+pub amid-2 : (b : ℕ) → 70 < b → b < 97 → digit-of b ≡ 16
 amid-2 b h k = apart b (over 48 57 b (omega arith)) (over 65 70 b h) (under 97 102 b k)
 
-pub after : (b : ℕ) → 102 < b → digitOf b ≡ 16
+pub after : (b : ℕ) → 102 < b → digit-of b ≡ 16
 after b h = apart b (over 48 57 b (omega arith)) (over 65 70 b (omega arith)) (over 97 102 b h)
 
 -- ---- the digits from i on
-pub empty : (base : ℕ) (s : List ℕ) (i : ℕ) → length s ≤ i → digitsOf base (drop i s) ≡ Bad
-unfolding digitsOf
-empty base s i h = ap (digitsOf base) (drop-of-length-le s h)
+pub empty : (base : ℕ) (s : List ℕ) (i : ℕ) → length s ≤ i → digits-of base (drop i s) ≡ Bad
+unfolding digits-of
+empty base s i h = ap (digits-of base) (drop-of-length-le s h)
 
-pub first : (base : ℕ) (s : List ℕ) (i : ℕ) → i < length s → digitsOf base (drop i s) ≡ digitsAfter base 0 (drop i s)
-unfolding digitsOf
-first base s i h = ap (digitsOf base) (drop-cons s i 0 h) ∙ ap (digitsAfter base 0) (sym (drop-cons s i 0 h))
+pub first : (base : ℕ) (s : List ℕ) (i : ℕ) → i < length s → digits-of base (drop i s) ≡ digits-after base 0 (drop i s)
+unfolding digits-of
+first base s i h = ap (digits-of base) (drop-cons s i 0 h) ∙ ap (digits-after base 0) (sym (drop-cons s i 0 h))
 
-grows : (base : ℕ) → 0 < base → (s : List ℕ) (v : ℕ) → v ≤ valueOf base v s
-unfolding valueOf
+grows : (base : ℕ) → 0 < base → (s : List ℕ) (v : ℕ) → v ≤ value-of base v s
+unfolding value-of
 grows base h [] v = le-refl v
-grows base h (b ∷ rest) v = le-trans (more v base (digitOf b) (le-trans (le-of-eq (sym (mul-one v))) (mul-le-mul-left v h))) (grows base h rest (v * base + digitOf b))
+grows base h (b ∷ rest) v = le-trans (more v base (digit-of b) (le-trans (le-of-eq (sym (mul-one v))) (mul-le-mul-left v h))) (grows base h rest (v * base + digit-of b))
   where
     more : (v base d : ℕ) → v ≤ v * base → v ≤ v * base + d
     more v base d h = omega arith
 
 module _ (base v : ℕ) (s : List ℕ) (i : ℕ) (h : i < length s) where
-  pub not-digit : base ≤ digitOf (getD s i 0) → digitsAfter base v (drop i s) ≡ Bad
-  unfolding digitsAfter allDigits
-  not-digit k = ap (digitsAfter base v) (drop-cons s i 0 h) ∙ simp (le-ltb (digitOf (getD s i 0)) base k)
+  pub not-digit : base ≤ digit-of (getD s i 0) → digits-after base v (drop i s) ≡ Bad
+  unfolding digits-after all-digits
+  not-digit k = ap (digits-after base v) (drop-cons s i 0 h) ∙ simp (le-ltb (digit-of (getD s i 0)) base k)
 
-  pub too-large : 0 < base → 2 ^ 64 ≤ v * base + digitOf (getD s i 0) → digitsAfter base v (drop i s) ≡ Bad
-  unfolding digitsAfter valueOf
+  pub too-large : 0 < base → 2 ^ 64 ≤ v * base + digit-of (getD s i 0) → digits-after base v (drop i s) ≡ Bad
+  unfolding digits-after value-of
   too-large pos k =
-      let w = v * base + digitOf (getD s i 0) in
-      ap (digitsAfter base v) (drop-cons s i 0 h)
-      ∙ simp (le-ltb (valueOf base w (drop (suc i) s)) (2 ^ 64) (le-trans k (grows base pos (drop (suc i) s) w)), and-false)
+      let w = v * base + digit-of (getD s i 0) in
+      ap (digits-after base v) (drop-cons s i 0 h)
+      ∙ simp (le-ltb (value-of base w (drop (suc i) s)) (2 ^ 64) (le-trans k (grows base pos (drop (suc i) s) w)), and-false)
 
-  pub next : digitOf (getD s i 0) < base → digitsAfter base v (drop i s) ≡ digitsAfter base (v * base + digitOf (getD s i 0)) (drop (i + 1) s)
-  unfolding digitsAfter allDigits valueOf
-  next k = ap (digitsAfter base v) (drop-cons s i 0 h) ∙ simp (lt-ltb (digitOf (getD s i 0)) base k, add-one)
+  pub next : digit-of (getD s i 0) < base → digits-after base v (drop i s) ≡ digits-after base (v * base + digit-of (getD s i 0)) (drop (i + 1) s)
+  unfolding digits-after all-digits value-of
+  next k = ap (digits-after base v) (drop-cons s i 0 h) ∙ simp (lt-ltb (digit-of (getD s i 0)) base k, add-one)
 
-pub last : (base v : ℕ) (s : List ℕ) (i : ℕ) → length s ≤ i → v < 2 ^ 64 → digitsAfter base v (drop i s) ≡ Value v
-unfolding digitsAfter allDigits valueOf
-last base v s i h k = ap (digitsAfter base v) (drop-of-length-le s h) ∙ simp (lt-ltb v (2 ^ 64) k)
+pub last : (base v : ℕ) (s : List ℕ) (i : ℕ) → length s ≤ i → v < 2 ^ 64 → digits-after base v (drop i s) ≡ Value v
+unfolding digits-after all-digits value-of
+last base v s i h k = ap (digits-after base v) (drop-of-length-le s h) ∙ simp (lt-ltb v (2 ^ 64) k)
 
 -- ---- the code's test of room for one more digit
 pub room : (v base d : ℕ) → v ≤ (18446744073709551615 - d) / base → v * base ≤ 18446744073709551615 - d

@@ -7,9 +7,9 @@ use lib.ListN.{length, drop}
 use lib.Dec.{leb, eqb}
 
 -- the index of the first b, or the length where there is none
-unfoldable pub indexOf : ℕ → List ℕ → ℕ
-indexOf b [] = zero
-indexOf b (x ∷ rest) = cond (eqb x b) zero (suc (indexOf b rest))
+unfoldable pub index-of : ℕ → List ℕ → ℕ
+index-of b [] = zero
+index-of b (x ∷ rest) = cond (eqb x b) zero (suc (index-of b rest))
 
 unfoldable pub same : List ℕ → List ℕ → Bool
 same [] [] = true
@@ -27,8 +27,8 @@ split [] = [] ∷ []
 split (x ∷ rest) = cond (eqb x (code " ")) ([] ∷ split rest) (longer x (split rest))
 
 -- the words from a place on; past the end there is none
-unfoldable pub wordsFrom : List ℕ → ℕ → List (List ℕ)
-wordsFrom s at = cond (leb at (length s)) (split (drop at s)) []
+unfoldable pub words-from : List ℕ → ℕ → List (List ℕ)
+words-from s at = cond (leb at (length s)) (split (drop at s)) []
 
 unfoldable pub second : List (List ℕ) → List ℕ
 second [] = []

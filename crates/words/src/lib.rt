@@ -6,7 +6,7 @@ pub use numbers::number;
 ghost use mathlib.Core.Path.{_≡_};
 ghost use Prim.Native.Nat.{_+_};
 ghost use lib.ListN.{drop};
-ghost use Rattle.words.specs.Word.{indexOf, same, split, second};
+ghost use Rattle.words.specs.Word.{index-of, same, split, second};
 
 // A word that has a value, or has none.
 pub enum Read {
@@ -16,7 +16,7 @@ pub enum Read {
 
 // The first place of `byte` in `s` from `from` on, or the end of `s`.
 pub fn index_of(s: &[u8], from: usize, byte: u8) -> usize
-    ensures { λ r. ⌜ r ≡ from + indexOf byte (drop from (now (s .entry))) ⌝ }
+    ensures { λ r. ⌜ r ≡ from + index-of byte (drop from (now (s .entry))) ⌝ }
 {
     let mut i = from;
     while i < s.len() {

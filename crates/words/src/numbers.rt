@@ -3,11 +3,11 @@ use crate::Read;
 ghost use mathlib.Core.Path.{_≡_};
 ghost use Prim.Native.Nat.{_<_};
 ghost use lib.ListN.{drop};
-ghost use Rattle.words.specs.Number.{digitOf, digitsOf, numberOf, limitOf, fieldOf};
+ghost use Rattle.words.specs.Number.{digit-of, digits-of, number-of, limit-of, field-of};
 
 // The value of a decimal or hexadecimal digit, or 16.
 fn digit(b: u8) -> u64
-    ensures { λ r. ⌜ r ≡ digitOf b ⌝ }
+    ensures { λ r. ⌜ r ≡ digit-of b ⌝ }
 {
     match b {
         b'0'..=b'9' => (b - b'0') as u64,
@@ -20,7 +20,7 @@ fn digit(b: u8) -> u64
 // The number that the digits from `from` on make.
 fn digits(word: &[u8], from: usize, base: u64) -> Read
     requires { ⌜ 0 < base ⌝ }
-    ensures { λ r. ⌜ r ≡ digitsOf base (drop from (now (word .entry))) ⌝ }
+    ensures { λ r. ⌜ r ≡ digits-of base (drop from (now (word .entry))) ⌝ }
 {
     if word.len() <= from {
         return Read::Bad;
@@ -43,7 +43,7 @@ fn digits(word: &[u8], from: usize, base: u64) -> Read
 
 // A number in decimal, or in hexadecimal after `0x`.
 pub fn number(word: &[u8]) -> Read
-    ensures { λ r. ⌜ r ≡ numberOf (now (word .entry)) ⌝ }
+    ensures { λ r. ⌜ r ≡ number-of (now (word .entry)) ⌝ }
 {
     if word.len() < 2 {
         return digits(word, 0, 10);
@@ -59,7 +59,7 @@ pub fn number(word: &[u8]) -> Read
 
 // The largest number of a field of this kind.
 fn limit(kind: u8) -> u64
-    ensures { λ r. ⌜ r ≡ limitOf kind ⌝ }
+    ensures { λ r. ⌜ r ≡ limit-of kind ⌝ }
 {
     match kind {
         b'f' => 1,
@@ -72,7 +72,7 @@ fn limit(kind: u8) -> u64
 
 // An argument of this kind: a name's length, or a number within its field.
 pub fn field(kind: u8, word: &[u8]) -> Read
-    ensures { λ r. ⌜ r ≡ fieldOf kind (now (word .entry)) ⌝ }
+    ensures { λ r. ⌜ r ≡ field-of kind (now (word .entry)) ⌝ }
 {
     if kind == b'n' {
         if word.len() == 0 {

@@ -3,7 +3,7 @@ use mathlib.Core.Path.{_≡_, sym, ap, _∙_}
 use lib.Ieee.{Float}
 use Prim.Native.Nat.{ℕ}
 use Rattle.motor_core.specs.Model.{limits-of}
-use Rattle.motor_core.specs.declared.model.Limits.{Limits}
+use Rattle.motor_core.specs.declared.model.LimitCheck.{LimitCheck}
 use Rattle.motor_core.specs.declared.model.PvTLimits.{PvTLimits}
 use Rattle.frame.specs.Command.{frame-for}
 use Rattle.setpoint.specs.Setpoint.{mit-cmd, with-limits, mit-data}
@@ -27,10 +27,10 @@ frame-for-requires : tie.Need-frame-for-requires
 frame-for-requires c κs = search needs
 
 -- what the limits make of it
-by-limits : (made told : Limits) (motor : ℕ) (p v t pos vel kp kd torq : Float) → made ≡ limits-of p v t → made ≡ told
+by-limits : (made told : LimitCheck) (motor : ℕ) (p v t pos vel kp kd torq : Float) → made ≡ limits-of p v t → made ≡ told
     → with-limits told (λ (l : PvTLimits). frame-for motor motor (mit-data l pos vel kp kd torq)) ≡ mit-cmd motor p v t pos vel kp kd torq
 unfolding mit-cmd
-by-limits made told motor p v t pos vel kp kd torq e h = ap (λ (made : Limits). with-limits made (λ (l : PvTLimits). frame-for motor motor (mit-data l pos vel kp kd torq))) (sym h ∙ e)
+by-limits made told motor p v t pos vel kp kd torq e h = ap (λ (made : LimitCheck). with-limits made (λ (l : PvTLimits). frame-for motor motor (mit-data l pos vel kp kd torq))) (sym h ∙ e)
 
 returns : tie.Need-returns
 returns c =

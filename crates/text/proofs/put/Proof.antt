@@ -6,7 +6,7 @@ use native.Mathlib.Numerals.{add-one}
 use native.Mathlib.Omega.{arith}
 use lib.ListN.{length, set, getD, length-set}
 use lib.Seq.{paste, paste-zero, paste-suc}
-use Rattle.text.specs.Text.{putAt, placeAfter}
+use Rattle.text.specs.Text.{put-at, place-after}
 use Rattle.text.proofs.put.Statement.{statement}
 use Rattle.text.proofs.put.Tie as tie
 
@@ -26,7 +26,7 @@ same-length : tie.Need-same-length Inv-loop μ-loop
 same-length c = omega arith
 
 returns : tie.Need-returns Inv-loop μ-loop
-unfolding putAt placeAfter
+unfolding put-at place-after
 returns c =
     let l = c .before .before .loop in
     let a = c .before .before .before .args in
@@ -67,7 +67,7 @@ same-length-2 : tie.Need-same-length-2 Inv-loop μ-loop
 same-length-2 c = omega arith
 
 returns-2 : tie.Need-returns-2 Inv-loop μ-loop
-unfolding putAt placeAfter
+unfolding put-at place-after
 returns-2 c =
     let l = c .before .loop in
     let a = c .before .before .args in

@@ -5,7 +5,7 @@ use native.Mathlib.Omega.{arith}
 use lib.ListN.{length, take, drop, length-drop}
 use lib.Seq.{take-all}
 use borrow.Author.Needs.{needs}
-use Rattle.text.specs.Text.{putAt, placeAfter, digits, trimmed, decimal}
+use Rattle.text.specs.Text.{put-at, place-after, digits, trimmed, decimal}
 use Rattle.text.proofs.put_decimal.Statement.{statement}
 use Rattle.text.proofs.put_decimal.Tie as tie
 
@@ -48,7 +48,7 @@ returns c =
     let all : text ≡ digits 10 20 (a .n) = sym (take-all 20 text (omega arith)) ∙ s .ensures in
     let e : take (20 - z .result) (drop (z .result) text) ≡ decimal (a .n) =
     take-all (20 - z .result) (drop (z .result) text) (omega (arith, length-drop (z .result) text)) ∙ z .ensures .1 ∙ ap trimmed all in
-    (put .ensures .0 ∙ ap (putAt (a .out .now) (a .at)) e, put .ensures .1 ∙ ap (placeAfter (a .out .now) (a .at)) e)
+    (put .ensures .0 ∙ ap (put-at (a .out .now) (a .at)) e, put .ensures .1 ∙ ap (place-after (a .out .now) (a .at)) e)
 
 pub put-decimal-spec : {M : Type 1} → statement M
 put-decimal-spec =

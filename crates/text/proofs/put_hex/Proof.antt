@@ -5,7 +5,7 @@ use native.Mathlib.Omega.{arith}
 use lib.ListN.{take}
 use lib.Seq.{length-take-le}
 use borrow.Author.Needs.{needs}
-use Rattle.text.specs.Text.{putAt, placeAfter, digits, hexadecimal}
+use Rattle.text.specs.Text.{put-at, place-after, digits, hexadecimal}
 use Rattle.text.proofs.put_hex.Statement.{statement}
 use Rattle.text.proofs.put_hex.Tie as tie
 
@@ -41,7 +41,7 @@ returns c =
     let k = c .before .before .before .before .before .before .before .before .least in
     let put = c .before .before .put in
     let e : take (k .result) (s .last .1 .1 .1 .0) ≡ hexadecimal (a .width) (a .n) = s .ensures ∙ ap (λ (j : ℕ). digits 16 j (a .n)) (k .ensures) in
-    (put .ensures .0 ∙ ap (putAt (a .out .now) (a .at)) e, put .ensures .1 ∙ ap (placeAfter (a .out .now) (a .at)) e)
+    (put .ensures .0 ∙ ap (put-at (a .out .now) (a .at)) e, put .ensures .1 ∙ ap (place-after (a .out .now) (a .at)) e)
 
 pub put-hex-spec : {M : Type 1} → statement M
 put-hex-spec =

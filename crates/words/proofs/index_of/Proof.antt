@@ -4,13 +4,13 @@ use mathlib.Core.Path.{_≡_, refl, sym, _∙_}
 use native.Mathlib.Omega.{arith}
 use lib.ListN.{length, drop}
 use borrow.Author.Needs.{needs}
-use Rattle.words.specs.Word.{indexOf}
+use Rattle.words.specs.Word.{index-of}
 use Rattle.words.proofs.Words.{hit, miss, none}
 use Rattle.words.proofs.index_of.Statement.{statement}
 use Rattle.words.proofs.index_of.Tie as tie
 
 abbrev Inv-loop : tie.InvT-loop
-Inv-loop s from byte i₀ i = from + indexOf byte (drop from s) ≡ i + indexOf byte (drop i s)
+Inv-loop s from byte i₀ i = from + index-of byte (drop from s) ≡ i + index-of byte (drop i s)
 
 abbrev μ-loop : tie.MeasureT-loop
 μ-loop s from byte i₀ i = length s - i

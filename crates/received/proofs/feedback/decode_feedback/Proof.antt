@@ -4,7 +4,7 @@ use mathlib.Core.List.{List}
 use Prim.Native.Nat.{ℕ}
 use lib.Ieee.{Float}
 use Rattle.motor_core.specs.Model.{limits-of}
-use Rattle.motor_core.specs.declared.model.Limits.{Limits}
+use Rattle.motor_core.specs.declared.model.LimitCheck.{LimitCheck}
 use Rattle.received.specs.Received.{decoded, by-limits}
 use Rattle.received.specs.declared.feedback.Decoded.the-variants.{Feedback}
 use borrow.Author.Needs.{needs}
@@ -23,9 +23,9 @@ enum-known-made-2 c = search needs
 decode-sensor-feedback-requires : tie.Need-decode-sensor-feedback-requires
 decode-sensor-feedback-requires c κs = search needs
 
-told-limits : (made told : Limits) (p v t : Float) (bytes : List ℕ) → made ≡ limits-of p v t → made ≡ told → by-limits told bytes ≡ decoded p v t bytes
+told-limits : (made told : LimitCheck) (p v t : Float) (bytes : List ℕ) → made ≡ limits-of p v t → made ≡ told → by-limits told bytes ≡ decoded p v t bytes
 unfolding decoded
-told-limits made told p v t bytes e h = ap (λ (l : Limits). by-limits l bytes) (sym h ∙ e)
+told-limits made told p v t bytes e h = ap (λ (l : LimitCheck). by-limits l bytes) (sym h ∙ e)
 
 returns : tie.Need-returns
 returns c = let s = c .before .before .before .before in told-limits _ _ (s .args .p-max) (s .args .v-max) (s .args .t-max) (s .args .«data») (c .before .before .before .from-maxima .ensures) (c .before .made .given .1)

@@ -100,9 +100,9 @@ returns c =
     let u = c .before .before in
     let j = u .before .before .before in
     by-fields _ _ _ _ _ _ _
-    (same-code 16 _ _ _ _ _ (u .before .before .uint-to-float .ensures) (j .before .before .joined .ensures))
-    (same-code 12 _ _ _ _ _ (u .before .uint-to-float2 .ensures) (high-twelve _ _ _ (j .before .joined2 .ensures)))
-    (same-code 12 _ _ _ _ _ (u .uint-to-float3 .ensures) (j .joined3 .ensures))
+    (same-code 16 _ _ _ _ _ (u .before .before .uint-to-float .ensures) (j .before .before .joined .ensures .0))
+    (same-code 12 _ _ _ _ _ (u .before .uint-to-float2 .ensures) (high-twelve _ _ _ (j .before .joined2 .ensures .0)))
+    (same-code 12 _ _ _ _ _ (u .uint-to-float3 .ensures) (j .joined3 .ensures .0))
     (c .before .temperature .ensures)
     (c .temperature2 .ensures)
 

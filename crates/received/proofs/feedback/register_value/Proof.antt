@@ -76,7 +76,7 @@ returns c =
     let r = c .before .before .before .before in
     let j = r .before in
     c .value-from-bits .ensures
-    ∙ ap₂ value-of (typed _ _ _ _ (j .before .before .pre) (r .register-info .ensures) (c .before .before .info .given .1)) (four _ _ _ _ _ _ (j .before .joined .ensures) (j .joined2 .ensures))
+    ∙ ap₂ value-of (typed _ _ _ _ (j .before .before .pre) (r .register-info .ensures) (c .before .before .info .given .1)) (four _ _ _ _ _ _ (j .before .joined .ensures .0) (j .joined2 .ensures .0))
 
 returns-2 : tie.Need-returns-2
 returns-2 c =

@@ -6,8 +6,8 @@ use mathlib.Core.List.{List}
 use lib.ListN.{length, take, drop}
 use lib.Seq.{length-take-le}
 use borrow.Author.Needs.{needs}
-use Rattle.words.specs.Word.{split, wordsFrom}
-use Rattle.script.specs.Line.{callFrom, callOf}
+use Rattle.words.specs.Word.{split, words-from}
+use Rattle.script.specs.Line.{call-from, call-of}
 use Rattle.words.proofs.Words.{end-le}
 use Rattle.script.proofs.Parsing.{begun, ended, half, found, passed}
 use Rattle.script.proofs.calls.call_by.Statement.{statement}
@@ -15,7 +15,7 @@ use Rattle.script.proofs.calls.call_by.Tie as tie
 
 abbrev Inv-loop : tie.InvT-loop
 Inv-loop table line end at₀ code₀ at code =
-    (callOf (split table) (split line) ≡ callFrom (wordsFrom table at) (take end line) (wordsFrom line (end + 1)) code) × (code ≤ at)
+    (call-of (split table) (split line) ≡ call-from (words-from table at) (take end line) (words-from line (end + 1)) code) × (code ≤ at)
 
 abbrev μ-loop : tie.MeasureT-loop
 μ-loop table line end at₀ code₀ at code = length table - at
@@ -40,7 +40,7 @@ returns c =
     let l = c .before .before .before .before .loop in
     let end = c .before .before .before .before .before .index-of in
     let name = c .before .before .index-of2 in
-    c .bare .ensures ∙ sym (l .inv .0 ∙ half (a .table .now) (take (end .result) (a .line .now)) (wordsFrom (a .line .now) (end .result + 1)) (l .code) (l .at) (name .result) (omega arith) (name .ensures) (omega arith))
+    c .bare .ensures ∙ sym (l .inv .0 ∙ half (a .table .now) (take (end .result) (a .line .now)) (words-from (a .line .now) (end .result + 1)) (l .code) (l .at) (name .result) (omega arith) (name .ensures) (omega arith))
 
 add-kinds : tie.Need-add-kinds Inv-loop μ-loop
 add-kinds c = omega arith
@@ -98,7 +98,7 @@ returns-2 c =
     let name = c .before .before .before .before .before .before .before .before .index-of2 in
     let kinds = c .before .before .before .before .before .before .index-of3 in
     let same = c .before .before .before .same-bytes in
-    c .fields .ensures ∙ sym (l .inv .0 ∙ found (a .table .now) (take (end .result) (a .line .now)) (wordsFrom (a .line .now) (end .result + 1)) (l .code) (l .at) (name .result) (omega arith) (name .ensures) (kinds .result) (omega arith) (kinds .ensures) (sym (same .ensures) ∙ c .before .before .if2 .taken))
+    c .fields .ensures ∙ sym (l .inv .0 ∙ found (a .table .now) (take (end .result) (a .line .now)) (words-from (a .line .now) (end .result + 1)) (l .code) (l .at) (name .result) (omega arith) (name .ensures) (kinds .result) (omega arith) (kinds .ensures) (sym (same .ensures) ∙ c .before .before .if2 .taken))
 
 add-at : tie.Need-add-at Inv-loop μ-loop
 add-at c =
@@ -123,7 +123,7 @@ loop-again c =
     let name = c .before .before .before .before .before .before .index-of2 in
     let kinds = c .before .before .before .before .index-of3 in
     let same = c .before .same-bytes in (
-      l .inv .0 ∙ passed (a .table .now) (take (end .result) (a .line .now)) (wordsFrom (a .line .now) (end .result + 1)) (l .code) (l .at) (name .result) (omega arith) (name .ensures) (kinds .result) (omega arith) (kinds .ensures) (sym (same .ensures) ∙ c .if2 .left),
+      l .inv .0 ∙ passed (a .table .now) (take (end .result) (a .line .now)) (words-from (a .line .now) (end .result + 1)) (l .code) (l .at) (name .result) (omega arith) (name .ensures) (kinds .result) (omega arith) (kinds .ensures) (sym (same .ensures) ∙ c .if2 .left),
       omega (arith, name .ensures, kinds .ensures),
     )
 
@@ -135,7 +135,7 @@ returns-3 c =
     let a = c .before .before .before .before .before .before .args in
     let l = c .before .before .loop in
     let end = c .before .before .before .index-of in
-    c .bare2 .ensures ∙ sym (l .inv .0 ∙ ended (a .table .now) (take (end .result) (a .line .now)) (wordsFrom (a .line .now) (end .result + 1)) (l .code) (l .at) (omega arith))
+    c .bare2 .ensures ∙ sym (l .inv .0 ∙ ended (a .table .now) (take (end .result) (a .line .now)) (words-from (a .line .now) (end .result + 1)) (l .code) (l .at) (omega arith))
 
 pub call-by-spec : {M : Type 1} → statement M
 call-by-spec =

@@ -4,8 +4,8 @@ use mathlib.Core.Path.{_≡_, refl, sym, _∙_}
 use native.Mathlib.Omega.{arith}
 use lib.ListN.{length, drop, replicate, length-set}
 use borrow.Author.Needs.{needs}
-use Rattle.words.specs.Word.{wordsFrom}
-use Rattle.script.specs.Line.{fieldsOf}
+use Rattle.words.specs.Word.{words-from}
+use Rattle.script.specs.Line.{fields-of}
 use Rattle.words.proofs.Words.{end-le}
 use Rattle.script.proofs.Parsing.{missing, whole, extra, many, wrong, right}
 use Rattle.script.proofs.calls.fields.Statement.{statement}
@@ -13,7 +13,7 @@ use Rattle.script.proofs.calls.fields.Tie as tie
 
 abbrev Inv-loop : tie.InvT-loop
 Inv-loop kinds line at code args₀ from₀ i₀ args from i =
-    fieldsOf kinds (wordsFrom line at) code 0 (replicate 9 0) ≡ fieldsOf (drop i kinds) (wordsFrom line from) code i args
+    fields-of kinds (words-from line at) code 0 (replicate 9 0) ≡ fields-of (drop i kinds) (words-from line from) code i args
 
 abbrev μ-loop : tie.MeasureT-loop
 μ-loop kinds line at code args₀ from₀ i₀ args from i = length kinds - i

@@ -4,13 +4,13 @@ use mathlib.Core.Path.{_≡_, sym, ap, _∙_}
 use native.Mathlib.Omega.{arith}
 use lib.ListN.{length, drop}
 use borrow.Author.Needs.{needs}
-use Rattle.words.specs.Number.{digitsOf, digitsAfter}
+use Rattle.words.specs.Number.{digits-of, digits-after}
 use Rattle.words.proofs.Digits.{empty, first, not-digit, too-large, next, last, room, past}
 use Rattle.words.proofs.numbers.digits.Statement.{statement}
 use Rattle.words.proofs.numbers.digits.Tie as tie
 
 abbrev Inv-loop : tie.InvT-loop
-Inv-loop word from base i₀ value₀ i value = (digitsOf base (drop from word) ≡ digitsAfter base value (drop i word)) × (value < 2 ^ 64)
+Inv-loop word from base i₀ value₀ i value = (digits-of base (drop from word) ≡ digits-after base value (drop i word)) × (value < 2 ^ 64)
 
 abbrev μ-loop : tie.MeasureT-loop
 μ-loop word from base i₀ value₀ i value = length word - i
@@ -70,7 +70,7 @@ loop-again c =
     let a = c .before .before .before .before .before .before .before .before .args in
     let s = a .word .now in
     let d = c .before .before .digit in (
-      l .inv .0 ∙ next (a .base) (l .value) s (l .i) (omega arith) (rw (d .ensures) at (c .before .if2 .left)) ∙ ap (λ (n : ℕ). digitsAfter (a .base) (l .value * a .base + n) (drop (l .i + 1) s)) (sym (d .ensures)),
+      l .inv .0 ∙ next (a .base) (l .value) s (l .i) (omega arith) (rw (d .ensures) at (c .before .if2 .left)) ∙ ap (λ (n : ℕ). digits-after (a .base) (l .value * a .base + n) (drop (l .i + 1) s)) (sym (d .ensures)),
       omega (arith, room (l .value) (a .base) (d .result) (c .if3 .left)),
     )
 

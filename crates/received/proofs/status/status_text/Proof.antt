@@ -1,11 +1,11 @@
--- `received::status::text` meets its contract. Assumes nothing.
+-- `received::status::status_text` meets its contract. Assumes nothing.
 use mathlib.Core.Path.{sym, ap}
 use Rattle.motor_core.specs.Name.{name-of}
 use Rattle.received.specs.Status.{spelt}
 use Rattle.received.specs.declared.status.StatusName.{StatusName}
 use borrow.Author.Needs.{needs}
-use Rattle.received.proofs.status.text.Statement.{statement}
-use Rattle.received.proofs.status.text.Tie as tie
+use Rattle.received.proofs.status.status_text.Statement.{statement}
+use Rattle.received.proofs.status.status_text.Tie as tie
 
 enum-told : tie.Need-enum-told
 enum-told c = search needs
@@ -77,8 +77,8 @@ returns-10 : tie.Need-returns-10
 unfolding name-of
 returns-10 c = sym (ap (λ (n : StatusName). name-of (spelt n)) (c .before .before .enum-told10 .given .1))
 
-pub text-spec : {M : Type 1} → statement M
-text-spec =
+pub status-text-spec : {M : Type 1} → statement M
+status-text-spec =
     tie.close
     (tie.spec
     enum-told

@@ -1,11 +1,11 @@
--- `received::status::name_of` meets its contract. Assumes nothing.
+-- `received::status::status_name` meets its contract. Assumes nothing.
 use mathlib.Core.Path.{_≡_, sym, ap}
 use Prim.Native.Nat.{ℕ}
 use borrow.Author.Tests.{ne-eqb}
 use Rattle.received.specs.Status.{status-name}
 use Rattle.received.specs.declared.status.StatusName.the-variants.{Unknown}
-use Rattle.received.proofs.status.name_of.Statement.{statement}
-use Rattle.received.proofs.status.name_of.Tie as tie
+use Rattle.received.proofs.status.status_name.Statement.{statement}
+use Rattle.received.proofs.status.status_name.Tie as tie
 
 returns : tie.Need-returns
 unfolding status-name
@@ -58,8 +58,8 @@ returns-11 c =
     let r = c .before .match .rest in
     none _ (r .0 .0 .0 .0 .0 .0 .0 .0 .1) (r .0 .0 .0 .0 .0 .0 .0 .1) (r .0 .0 .0 .0 .0 .0 .1) (r .0 .0 .0 .0 .0 .1) (r .0 .0 .0 .0 .1) (r .0 .0 .0 .1) (r .0 .0 .1) (r .0 .1) (r .1)
 
-pub name-of-spec : {M : Type 1} → statement M
-name-of-spec =
+pub status-name-spec : {M : Type 1} → statement M
+status-name-spec =
     tie.close
     (tie.spec
     returns
