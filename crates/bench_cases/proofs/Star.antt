@@ -1,7 +1,6 @@
 -- The marked bench cases hold: the checker computes each definition. Assumes nothing.
 use mathlib.Core.Path.{refl}
-use Prim.Native.Nat.{ℕ}
-use lib.Ieee.{div, ofInt, neg, le, sub, mul, add, toUnsigned, round}
+use lib.Ieee.{div, ofInt, neg, le, sub, mul, add, toUnsigned}
 use Rattle.float.specs.Float.{clip}
 use Rattle.motor_core.specs.Model.{limits-of, limit-accepted}
 use Rattle.registers.specs.Registers.{registers, elem, data-type-of}
@@ -21,7 +20,7 @@ star = record {
   mit-all-zero = refl;
   mit-all-at-maximum = refl;
   feedback-decoded = refl;
-      feedback-sorted = refl;
+  feedback-sorted = refl;
   feedback-status = refl;
   register-ten = refl;
   d1-too-high = refl;

@@ -22,15 +22,15 @@ pub reached : {A : Type 0} (plus : A → A → A) (none : A) (f : ℕ → A) (k 
 reached plus none f k n sum l u e = e ∙ ap (total plus none f) (le-antisymm l u)
 
 -- what `from_maxima` makes of model 4310's maxima
-abbrev pub made-4310 : Limits
+abbrev pub made-4310 : LimitCheck
 made-4310 = limits-of (ofBits binary32 0x4148_0000) (ofBits binary32 0x41f0_0000) (ofBits binary32 0x4120_0000)
 
 accepted : made-4310 ≡ Accepted limits-4310
 unfolding limits-of limit-accepted le ofBits ofInt div
 accepted = refl
 
-pub same-limits : (made : Limits) (l : PvTLimits) → made ≡ made-4310 → made ≡ Accepted l → l ≡ limits-4310
+pub same-limits : (made : LimitCheck) (l : PvTLimits) → made ≡ made-4310 → made ≡ Accepted l → l ≡ limits-4310
 same-limits made l e h = cc accepted
 
-pub never-refused : (made : Limits) (n : ℕ) → made ≡ made-4310 → made ≡ Refused n → ⊥
+pub never-refused : (made : LimitCheck) (n : ℕ) → made ≡ made-4310 → made ≡ Refused n → ⊥
 never-refused made n e h = let z : _≡_ {A = ℕ} 0 1 = cc accepted in omega arith

@@ -1,6 +1,6 @@
 -- Upper bounds of floats that hold through the operations. `AtMost x a c`, for a c above 0, says that x is not above a / c: it is a NaN, or it is negative, or it is finite and a / c at most.
 -- So a bound on what is cut to a whole number (`cut-at-most`) needs nothing of the NaN or of the sign on the way. Assumes nothing.
-use mathlib.Core.Path.{_≡_, refl, sym, ap, _∙_, subst}
+use mathlib.Core.Path.{_≡_, sym, ap, _∙_, subst}
 use mathlib.Core.Logic.{_⊎_, inl, inr}
 use Prim.Native.Nat.{ℕ, zero, suc, _+_, _-_, _*_, _/_, _^_, _≤_, _<_, zero-le, min}
 use native.Mathlib.Nat.{le-trans, le-of-eq, le-of-lt, mul-le-mul-right, mul-le-mul, le-of-mul-le-mul-right, mul-mul-mul-comm, mul-pos, min-le-left, lt-irrefl, sub-le, sub-eq-zero-of-le, zero-mul, zero-lt-suc}
@@ -8,7 +8,7 @@ use native.Mathlib.Omega.{arith}
 use mathlib.Core.Bool.{Bool, true, false, not, _&&_, _||_, cond, true≢false}
 use lib.IntN.{ℤ, pos}
 use lib.Dec.{T, ltb, eqb, eqb→eq, ltb→lt, nltb→le}
-use lib.Ieee.{Float, nan, inf, fin, Format, prec, emax, low, unlike, up, down, odd, units, round, sum, add, sub, mul, div, lt, le, toUnsigned}
+use lib.Ieee.{Float, nan, inf, fin, Format, prec, emax, low, unlike, up, down, odd, units, round, add, sub, mul, div, lt, le, toUnsigned}
 use lib.Ieee.Fits.{round-is, up-pos, down-pos, and-l}
 use lib.Ieee.Exact.{HasValue}
 use lib.Ieee.Nearest.{div-mono}

@@ -1,9 +1,9 @@
 -- A float that is tested for a NaN, by `x != x` or by its bits. Assumes nothing.
-use mathlib.Core.Path.{_≡_, refl, sym, ap, _∙_, subst}
+use mathlib.Core.Path.{_≡_, refl, sym, _∙_, subst}
 use Prim.Native.Nat.{ℕ}
-use mathlib.Core.Bool.{Bool, true, false, not, true≢false}
+use mathlib.Core.Bool.{true, false, not, true≢false}
 use lib.Dec.{T}
-use lib.Ieee.{Float, nan, inf, fin, binary32, isNan, ofBits, toUnsigned, toBits, nanBits, ne}
+use lib.Ieee.{Float, nan, inf, fin, binary32, isNan, ofBits, nanBits, ne}
 use lib.Ieee.Bits.{nanBits-is}
 use lib.Ieee.Compare.{differs-from-itself, nan-differs}
 

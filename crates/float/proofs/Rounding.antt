@@ -1,12 +1,12 @@
 -- How far up `round` goes from its fraction: in the normal range at most by a part in 2 ^ prec. Assumes nothing.
-use mathlib.Core.Path.{_≡_, refl, sym, ap, _∙_, subst}
+use mathlib.Core.Path.{_≡_, ap, _∙_, subst}
 use Prim.Native.Nat.{ℕ, suc, _+_, _-_, _*_, _/_, _%_, _^_, _≤_, _<_, compare, Ordering, Ordering·lt, Ordering·eq, Ordering·gt}
-use native.Mathlib.Nat.{le-trans, le-of-eq, mul-le-mul-left, mul-le-mul-right, le-of-mul-le-mul-right, div-add-mod', le-div-iff-mul-le, pow-succ', mul-pos, mul-assoc, mul-comm}
+use native.Mathlib.Nat.{le-trans, le-of-eq, mul-le-mul-left, mul-le-mul-right, div-add-mod', le-div-iff-mul-le, pow-succ'}
 use native.Mathlib.Omega.{arith}
 use mathlib.Core.Bool.{not}
 use lib.Dec.{T, isLe, isEq, eqb, leb→le, nleb→lt, eqb→eq, eqb-refl}
 use lib.Arith.{lt-of-le-ne}
-use lib.Pow.{pow-add, pow-pos}
+use lib.Pow.{pow-add}
 use lib.Ieee.{Format, prec, low, size, nearest}
 use lib.Ieee.Digits.{size-reaches}
 use lib.Ieee.Fits.{two, two-le-pos}

@@ -1,10 +1,10 @@
 -- Fields that are packed one after the other. Assumes nothing.
-use mathlib.Core.Path.{_≡_, refl, sym, ap, _∙_}
-use mathlib.Core.List.{List, [], _∷_, _++_}
-use Prim.Native.Nat.{ℕ, _+_, _*_, _/_, _%_, _^_, _<_}
+use mathlib.Core.Path.{_≡_, sym, ap, _∙_}
+use mathlib.Core.List.{List, [], _∷_}
+use Prim.Native.Nat.{ℕ, _+_, _*_, _%_, _^_, _<_}
 use native.Mathlib.Omega.{arith}
 use lib.Pow.{pow-add}
-use Rattle.frame.specs.Layout.{Field, field, byte, packed, packed-onto, little-endian, data-byte}
+use Rattle.frame.specs.Layout.{Field, byte, packed, packed-onto, little-endian, data-byte}
 
 -- how many bits the fields have
 pub total : List Field → ℕ

@@ -1,14 +1,14 @@
 -- A code of b bits is below 2 ^ b, for every x, a NaN and the infinities included, and for all limits that are taken: `range`, for any b from 1 to 23. Assumes nothing.
-use mathlib.Core.Path.{_≡_, refl, sym, ap, _∙_, subst}
+use mathlib.Core.Path.{_≡_, refl, sym, _∙_, subst}
 use mathlib.Core.Logic.{_⊎_, inl, inr}
-use Prim.Native.Nat.{ℕ, zero, suc, _+_, _-_, _*_, _/_, _^_, _≤_, _<_}
+use Prim.Native.Nat.{ℕ, _+_, _-_, _*_, _/_, _^_, _≤_, _<_}
 use native.Mathlib.Nat.{le-trans, le-of-eq, le-of-lt, mul-one, one-mul, lt-of-le-of-lt, lt-of-lt-of-le, mul-le-mul, mul-le-mul-right, le-of-mul-le-mul-right, mul-pos, mul-assoc, zero-lt-suc, mul-lt-mul-of-pos-right}
 use native.Mathlib.Omega.{arith}
-use mathlib.Core.Bool.{Bool, true, false, not, _&&_, cond}
+use mathlib.Core.Bool.{true, false}
 use lib.IntN.{ℤ, pos, negsuc}
-use lib.Dec.{T, ltb, nltb→le, lit<, lit≤}
+use lib.Dec.{T, lit<, lit≤}
 use lib.Pow.{pow-pos, pow-mono}
-use lib.Ieee.{Float, nan, inf, fin, binary32, up, down, round, neg, sub, mul, div, lt, le, ofInt, toUnsigned, size}
+use lib.Ieee.{Float, nan, inf, fin, binary32, up, down, round, neg, sub, mul, div, le, ofInt, toUnsigned, size}
 use lib.Ieee.Fits.{and-l, and-r, down-pos}
 use lib.Ieee.Exact.{HasValue, round-exact}
 use lib.Ieee.Back.{round-whole}

@@ -1,5 +1,5 @@
 -- What it says of three maxima that they are taken. Assumes nothing.
-use mathlib.Core.Path.{_≡_, refl, subst}
+use mathlib.Core.Path.{_≡_, refl}
 use mathlib.Core.Bool.{Bool, true, false, _&&_, cond}
 use native.Mathlib.Omega.{arith}
 use Prim.Native.Nat.{ℕ}
@@ -8,7 +8,6 @@ use lib.Ieee.{Float}
 use Rattle.motor_core.specs.Error.{limit}
 use Rattle.motor_core.specs.Model.{limit-accepted, from-maxima, limits-of}
 use Rattle.motor_core.specs.declared.model.PvTLimits.{PvTLimits}
-use Rattle.motor_core.specs.declared.model.LimitCheck.{LimitCheck}
 use Rattle.motor_core.specs.declared.model.LimitCheck.the-variants.{Accepted, Refused}
 
 pub record Taken (p v t : Float) (l : PvTLimits) : Type 0 where

@@ -1,5 +1,4 @@
 -- The limits that are taken, and the record that three maxima make. Definitions only.
-use Prim.Native.Nat.{ℕ}
 use mathlib.Core.Bool.{Bool, _&&_, false, cond}
 use lib.IntN.{pos, negsuc}
 use lib.Ieee.{Float, fin, le, neg}

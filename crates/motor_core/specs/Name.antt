@@ -1,5 +1,5 @@
 -- Names as byte strings. Definitions only.
-use Prim.Native.Nat.{ℕ, _-_}
+use Prim.Native.Nat.{_-_}
 use Prim.Native.String.{String}
 use mathlib.Core.List.{_++_}
 use lib.ListN.{length, replicate}

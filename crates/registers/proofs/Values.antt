@@ -1,9 +1,9 @@
 -- A value and its 32 bits: each gives the other back. Assumes nothing.
-use mathlib.Core.Path.{_≡_, refl, sym, ap, _∙_, subst}
+use mathlib.Core.Path.{_≡_, refl, sym, subst}
 use Prim.Native.Nat.{ℕ, _^_, _<_}
 use mathlib.Core.Bool.{Bool, true, false, not, cond}
 use lib.Dec.{T}
-use lib.Ieee.{binary32, toBits, ofBits, nanBits, isNan}
+use lib.Ieee.{binary32, ofBits, nanBits, isNan}
 use lib.Ieee.Bits.{nanBits-is, toBits-ofBits}
 use Rattle.registers.specs.Value.{value-of, bits-of, type-of}
 use Rattle.registers.specs.declared.RegisterDataType.{RegisterDataType}

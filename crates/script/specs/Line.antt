@@ -2,7 +2,7 @@
 use Prim.Native.Nat.{ℕ, suc}
 use Prim.Native.Char.{code}
 use Prim.Native.String.{String}
-use mathlib.Core.Bool.{Bool, true, false, cond, _||_}
+use mathlib.Core.Bool.{Bool, true, cond, _||_}
 use mathlib.Core.List.{List, [], _∷_}
 use lib.ListN.{length, set, replicate}
 use lib.Dec.{ltb, eqb}

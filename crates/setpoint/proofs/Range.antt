@@ -65,3 +65,7 @@ scaled-at-most x most scale h m s =
 
     div-one : (n : ℕ) → n / 1 ≡ n
     div-one n = omega arith
+
+-- so the Rust's further cut at 10,000 does nothing
+pub force-pos-fits : (vlim ratio : Float) → (scaled vlim 100 100 ≤ 10000) × (scaled ratio 1 10000 ≤ 10000)
+force-pos-fits vlim ratio = (scaled-at-most vlim 100 100 (lit≤ tt) (lit≤ tt) (lit≤ tt), scaled-at-most ratio 1 10000 (lit≤ tt) (lit≤ tt) (lit≤ tt))

@@ -1,6 +1,6 @@
 -- The frames that set a point, as document 01 lays them out. Definitions only.
 use Prim.Native.Nat.{ℕ, _+_}
-use mathlib.Core.List.{List, [], _∷_, _++_}
+use mathlib.Core.List.{[], _∷_, _++_}
 use lib.Ieee.{Float, toUnsigned}
 use Rattle.float.specs.Float.{clip}
 use Rattle.motor_core.specs.Model.{limits-of}

@@ -2,7 +2,7 @@
 -- An argument's kind is a letter: `f` a flag, `b` 8 bits, `i` 16, `w` 32, `q` 64, and `n` a name.
 use Prim.Native.Nat.{ℕ, _+_, _-_, _*_, _^_}
 use Prim.Native.Char.{code}
-use mathlib.Core.Bool.{Bool, true, false, cond, _&&_}
+use mathlib.Core.Bool.{Bool, true, cond, _&&_}
 use mathlib.Core.List.{List, [], _∷_}
 use lib.ListN.{length}
 use lib.Dec.{ltb, leb, eqb}

@@ -1,3 +1,4 @@
+-- `bench_loops::bench_loops_encode_mit` meets its contract. Assumes nothing.
 use mathlib.Core.Path.{ap, _∙_}
 use denote.Ref.{now}
 use Rattle.motor_core.specs.declared.model.PvTLimits.{PvTLimits}

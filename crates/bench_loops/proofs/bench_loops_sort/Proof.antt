@@ -1,7 +1,6 @@
+-- `bench_loops::bench_loops_sort` meets its contract. Assumes nothing.
 use mathlib.Core.Path.{_≡_, refl, ap, _∙_}
-use mathlib.Core.List.{List}
-use Prim.Native.Nat.{ℕ, _≤_, _-_, _*_, _/_}
-use lib.ListN.{length}
+use Prim.Native.Nat.{_≤_, _-_, _*_}
 use borrow.Author.Needs.{needs}
 use Rattle.received.specs.Received.{class-of}
 use Rattle.bench_loops.specs.Loops.{total, _⊞_, frame, weight}

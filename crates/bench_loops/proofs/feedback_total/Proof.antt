@@ -1,8 +1,7 @@
+-- `bench_loops::feedback_total` meets its contract. Assumes nothing.
 use mathlib.Core.Path.{_≡_, refl, ap, _∙_}
-use mathlib.Core.List.{List}
-use Prim.Native.Nat.{ℕ, _≤_, _-_, _*_, _/_}
+use Prim.Native.Nat.{_≤_, _-_, _*_}
 use lib.Ieee.{ofBits, ofInt}
-use lib.ListN.{length}
 use borrow.Author.Needs.{needs}
 use Rattle.frame.specs.Codes.{float, _⊕_}
 use Rattle.received.specs.Received.{feedback-of}

@@ -1,6 +1,6 @@
-use mathlib.Core.Path.{_≡_, refl, ap, subst, _∙_}
-use Prim.Native.Nat.{ℕ, _≤_, _-_, _*_, _/_}
-use lib.ListN.{length}
+-- `bench_loops::mit_total` meets its contract. Assumes nothing.
+use mathlib.Core.Path.{_≡_, refl, _∙_}
+use Prim.Native.Nat.{_≤_, _-_, _*_}
 use borrow.Author.Needs.{needs}
 use Rattle.bench_loops.specs.Loops.{total, _⊞_, setpoint-data}
 use Rattle.bench_loops.proofs.Totals.{one-more, reached}

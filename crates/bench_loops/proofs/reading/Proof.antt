@@ -1,3 +1,4 @@
+-- `bench_loops::reading` meets its contract. Assumes nothing.
 use borrow.Author.Needs.{needs}
 use Rattle.bench_loops.proofs.reading.Statement.{statement}
 use Rattle.bench_loops.proofs.reading.Tie as tie

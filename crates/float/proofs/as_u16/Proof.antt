@@ -1,8 +1,5 @@
 -- `float::as_u16` meets its contract. Assumes nothing.
-use mathlib.Core.Path.{_≡_}
-use Prim.Native.Nat.{min}
 use native.Mathlib.Omega.{arith}
-use lib.Ieee.{toUnsigned}
 use borrow.Author.Needs.{needs}
 use Rattle.float.proofs.Truncating.{narrow}
 use Rattle.float.proofs.as_u16.Statement.{statement}

@@ -4,7 +4,7 @@ use Prim.Native.Nat.{ℕ, _/_, _≤_, _<_}
 use native.Mathlib.Omega.{arith}
 use mathlib.Core.Bool.{not}
 use lib.Dec.{T}
-use lib.Ieee.{Float, nan, binary32, isNan, toBits, ofBits, toUnsigned}
+use lib.Ieee.{Float, binary32, isNan, toBits, ofBits, toUnsigned}
 use lib.Ieee.Bits.{ofBits-toBits}
 use borrow.Author.Needs.{needs}
 use Rattle.float.proofs.Nans.{is-nan, no-nan}

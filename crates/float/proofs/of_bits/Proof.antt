@@ -1,8 +1,8 @@
 -- `float::of_bits` meets its contract. Assumes nothing.
-use mathlib.Core.Path.{sym, _∙_, ap, subst}
+use mathlib.Core.Path.{sym, _∙_, subst}
 use mathlib.Core.Bool.{Bool, not}
 use lib.Dec.{T}
-use lib.Ieee.{binary32, div, ofBits}
+use lib.Ieee.{div, ofBits}
 use borrow.Author.Needs.{needs}
 use Rattle.float.proofs.Nans.{nan-pattern}
 use Rattle.float.proofs.of_bits.Statement.{statement}

@@ -41,7 +41,7 @@ undivided : (n : ℕ) → n % 256 ≡ n / 1 % 256
 undivided n = omega arith
 
 returns : tie.Need-returns
-returns c = 
+returns c =
     let b = c .before .before .before .before in
     eight _ _ _ _ _ _ _ _ _ (b .before .before .before .low-byte .ensures) (b .before .before .low-byte2 .ensures) (b .before .low-byte3 .ensures) (b .low-byte4 .ensures) (c .before .before .before .low-byte5 .ensures) (c .before .before .low-byte6 .ensures)
     (c .before .low-byte7 .ensures) (c .low-byte8 .ensures ∙ undivided _)

@@ -1,6 +1,5 @@
 -- `registers::register_value_matches` meets its contract. Assumes nothing.
 use mathlib.Core.Path.{_≡_, sym, ap, ap₂, _∙_}
-use Prim.Native.Nat.{ℕ}
 use mathlib.Core.Bool.{Bool, _&&_, Bool·beq}
 use lib.Dec.{eqb}
 use Rattle.registers.specs.Value.{bits-of, type-of, is-u32, same-value}

@@ -1,6 +1,5 @@
 -- `setpoint::encode_force_pos_cmd` meets its contract. Assumes nothing.
-use mathlib.Core.Path.{_≡_}
-use lib.Ieee.{toUnsigned, ofBits, ofInt}
+use lib.Ieee.{ofBits, ofInt}
 use lib.Ieee.Casts.{toUnsigned-lt}
 use Rattle.setpoint.specs.Setpoint.{force-pos-data, scaled}
 use Rattle.setpoint.proofs.Words.{two-words}

@@ -1,6 +1,8 @@
 -- `setpoint::encode_pos_vel_cmd` meets its contract. Assumes nothing.
-use native.Mathlib.Omega.{arith}
+use mathlib.Core.Path.{sym, ap₂, _∙_}
+use Prim.Native.Nat.{ℕ, _+_, _*_}
 use Rattle.setpoint.specs.Setpoint.{pos-vel-data}
+use Rattle.frame.proofs.Packing.{four-bytes}
 use borrow.Author.Needs.{needs}
 use Rattle.setpoint.proofs.encode_pos_vel_cmd.Statement.{statement}
 use Rattle.setpoint.proofs.encode_pos_vel_cmd.Tie as tie
@@ -25,7 +27,7 @@ add-result c = search needs
 
 returns : tie.Need-returns
 unfolding pos-vel-data
-returns c = omega arith
+returns c = ap₂ (λ (a b : ℕ). a * 4294967296 + b) (c .before .reversed .ensures) (c .reversed2 .ensures) ∙ sym (four-bytes _ _)
 
 pub encode-pos-vel-cmd-spec : {M : Type 1} → statement M
 encode-pos-vel-cmd-spec =

@@ -1,6 +1,8 @@
 -- `setpoint::encode_vel_cmd` meets its contract. Assumes nothing.
-use native.Mathlib.Omega.{arith}
+use mathlib.Core.Path.{ap, _∙_}
+use Prim.Native.Nat.{ℕ, _*_}
 use Rattle.setpoint.specs.Setpoint.{vel-data}
+use Rattle.setpoint.proofs.Words.{zeros}
 use borrow.Author.Needs.{needs}
 use Rattle.setpoint.proofs.encode_vel_cmd.Statement.{statement}
 use Rattle.setpoint.proofs.encode_vel_cmd.Tie as tie
@@ -16,7 +18,7 @@ mul-result c = search needs
 
 returns : tie.Need-returns
 unfolding vel-data
-returns c = omega arith
+returns c = ap (λ (n : ℕ). n * 4294967296) (c .reversed .ensures) ∙ zeros _
 
 pub encode-vel-cmd-spec : {M : Type 1} → statement M
 encode-vel-cmd-spec = tie.close (tie.spec reversed-requires cast-result mul-result returns)

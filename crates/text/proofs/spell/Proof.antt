@@ -1,5 +1,5 @@
 -- `text::spell` meets its contract. The invariant: the digits of `rest` and those written are all the digits. Assumes nothing.
-use Prim.Native.Nat.{ℕ, _≤_, _-_}
+use Prim.Native.Nat.{ℕ, _≤_}
 use mathlib.Core.Path.{_≡_, refl, ap, _∙_}
 use mathlib.Core.List.{List, _++_, append-nil}
 use native.Mathlib.Nat.{le-refl, mod-lt}

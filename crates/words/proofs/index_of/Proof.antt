@@ -1,9 +1,8 @@
 -- `words::index_of` meets its contract. The invariant: the first place of the byte from `from` on is that from i on. Assumes nothing.
-use Prim.Native.Nat.{_+_, _-_, _≤_}
+use Prim.Native.Nat.{_+_, _-_}
 use mathlib.Core.Path.{_≡_, refl, sym, _∙_}
 use native.Mathlib.Omega.{arith}
 use lib.ListN.{length, drop}
-use borrow.Author.Needs.{needs}
 use Rattle.words.specs.Word.{index-of}
 use Rattle.words.proofs.Words.{hit, miss, none}
 use Rattle.words.proofs.index_of.Statement.{statement}

@@ -1,9 +1,8 @@
 -- `words::same_bytes` meets its contract. The invariant: the slices are the same where their rests from i on are. Assumes nothing.
-use Prim.Native.Nat.{_+_, _-_, _≤_}
+use Prim.Native.Nat.{_-_}
 use mathlib.Core.Path.{_≡_, refl, sym, _∙_}
 use native.Mathlib.Omega.{arith}
 use lib.ListN.{length, drop}
-use borrow.Author.Needs.{needs}
 use Rattle.words.specs.Word.{same}
 use Rattle.words.proofs.Words.{same-length, same-next, same-not, same-end}
 use Rattle.words.proofs.same_bytes.Statement.{statement}

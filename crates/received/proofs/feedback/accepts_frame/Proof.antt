@@ -1,5 +1,5 @@
 -- `received::feedback::accepts_frame` meets its contract. Assumes nothing.
-use mathlib.Core.Path.{_≡_, refl, sym, _∙_}
+use mathlib.Core.Path.{_≡_, refl, _∙_}
 use mathlib.Core.Bool.{Bool, true, false, not, _&&_, _||_}
 use Prim.Native.Nat.{ℕ, _%_}
 use lib.Dec.{ltb, eqb}
@@ -32,7 +32,7 @@ returns-3 : tie.Need-returns-3
 returns-3 c = let b = c .before .before .before in tested _ _ _ false false true (b .before .before .if1 .left) (ne-eqb _ _ (b .if2 .left)) (lt-ltb _ _ (c .if3 .taken))
 
 returns-4 : tie.Need-returns-4
-returns-4 c = 
+returns-4 c =
     let b = c .before .before .before in
     let none = le-ltb _ _ (c .if3 .left) in
     none ∙ tested _ _ _ false false false (b .before .before .if1 .left) (ne-eqb _ _ (b .if2 .left)) none

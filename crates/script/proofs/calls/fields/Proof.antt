@@ -1,8 +1,8 @@
 -- `script::calls::fields` meets its contract. The invariant: what is left are the kinds from i on and the words from `from` on. Assumes nothing.
-use Prim.Native.Nat.{_-_, _≤_, _<_}
+use Prim.Native.Nat.{_-_}
 use mathlib.Core.Path.{_≡_, refl, sym, _∙_}
 use native.Mathlib.Omega.{arith}
-use lib.ListN.{length, drop, replicate, length-set}
+use lib.ListN.{length, drop, replicate}
 use borrow.Author.Needs.{needs}
 use Rattle.words.specs.Word.{words-from}
 use Rattle.script.specs.Line.{fields-of}

@@ -1,9 +1,8 @@
 -- `words::numbers::digits` meets its contract. The invariant: the digits from `from` on are the digits from i on after those passed, whose value fits. Assumes nothing.
-use Prim.Native.Nat.{ℕ, _+_, _-_, _*_, _≤_, _<_, _^_}
+use Prim.Native.Nat.{ℕ, _+_, _-_, _*_, _<_, _^_}
 use mathlib.Core.Path.{_≡_, sym, ap, _∙_}
 use native.Mathlib.Omega.{arith}
 use lib.ListN.{length, drop}
-use borrow.Author.Needs.{needs}
 use Rattle.words.specs.Number.{digits-of, digits-after}
 use Rattle.words.proofs.Digits.{empty, first, not-digit, too-large, next, last, room, past}
 use Rattle.words.proofs.numbers.digits.Statement.{statement}
