@@ -63,12 +63,11 @@ fn temperature(byte: u8) -> f32
     byte as f32
 }
 
-// Whether d1 and d2 are a register frame's. All three tests are made, so that a processor does not
-// guess which marker comes.
+// Whether d1 and d2 are a register frame's.
 fn marks_register(d1: u8, d2: u8) -> bool
     ensures { λ r. ⌜ r ≡ (leb d1 0x0f && (eqb d2 0x33 || eqb d2 0x55)) ⌝ }
 {
-    (d1 <= 0x0f) & ((d2 == 0x33) | (d2 == 0x55))
+    d1 <= 0x0f && ((d2 == 0x33) | (d2 == 0x55))
 }
 
 pub fn frame_class(data: [u8; 8]) -> FrameClass

@@ -1,7 +1,7 @@
 -- What a register's code says of it. Assumes nothing.
-use mathlib.Core.Path.{_≡_, refl, ap, _∙_}
+use mathlib.Core.Path.{_≡_, refl, ap}
 use Prim.Native.Nat.{ℕ, zero, suc, _+_}
-use mathlib.Core.Bool.{Bool, true, false, cond}
+use mathlib.Core.Bool.{Bool, true, false, not, cond}
 use lib.Dec.{eqb}
 use Rattle.registers.specs.Registers.{known, elem, writable, whole-number, access-of, data-type-of, info-of, code-of}
 use Rattle.registers.specs.declared.RegisterAccess.the-variants.{ReadOnly, ReadWrite}
@@ -36,16 +36,16 @@ none-of-four (suc (suc (suc zero))) a b c d = absurd (c refl)
 none-of-four (suc (suc (suc (suc zero)))) a b c d = absurd (d refl)
 none-of-four (suc (suc (suc (suc (suc n))))) a b c d = refl
 
--- 1 for a known register
-abbrev pub flag : ℕ → ℕ
-flag rid = cond (known rid) 1 0
-
-pub known-by-flag : (rid n : ℕ) → n ≡ flag rid → eqb n 1 ≡ known rid
-known-by-flag rid n e = ap (λ (m : ℕ). eqb m 1) e ∙ go (known rid)
+pub known-by-code : (rid : ℕ) → not (eqb (code-of rid) 0) ≡ known rid
+unfolding code-of
+known-by-code rid = go (known rid) (elem rid writable) (elem rid whole-number)
   where
-    go : (k : Bool) → eqb (cond k 1 0) 1 ≡ k
-    go true = refl
-    go false = refl
+    go : (k w u : Bool) → not (eqb (cond k (1 + cond w 1 0 + cond u 2 0) 0) 0) ≡ k
+    go false w u = refl
+    go true false false = refl
+    go true true false = refl
+    go true false true = refl
+    go true true true = refl
 
 -- a known register's information
 pub info-known : (rid : ℕ) → known rid ≡ true → info-of rid ≡ Known (access-of rid) (data-type-of rid)

@@ -17,7 +17,3 @@ from f (suc n) i (suc k) h = from f n (suc i) k (le-of-suc-le-suc h) ∙ ap f (s
 
 pub tabulated : (f : ℕ → ℕ) (n k : ℕ) → k < n → getD (tabulate f 0 n) k 0 ≡ f k
 tabulated f n k h = from f n 0 k h ∙ ap f (zero-add k)
-
--- two rules that make the same table are the same at each of its places
-pub same-at : (f g : ℕ → ℕ) (n k : ℕ) → tabulate f 0 n ≡ tabulate g 0 n → k < n → f k ≡ g k
-same-at f g n k e h = sym (tabulated f n k h) ∙ ap (λ (t : List ℕ). getD t k 0) e ∙ tabulated g n k h

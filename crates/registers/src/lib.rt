@@ -280,10 +280,6 @@ const REGISTER_TABLE: [u8; 256] = [
     0,
 ];
 
-// The same 256 places, one bit for each: set where the register is known. A frame is sorted by it,
-// since it is so much smaller.
-const KNOWN_PLACES: [u64; 4] = [0xf9fc_001f_ffff_ffff, 0x3_0003, 0, 0];
-
 fn register_code(rid: u8) -> u8
     ensures { λ r. ⌜ r ≡ code-of rid ⌝ }
 {
@@ -306,8 +302,7 @@ pub fn register_info(rid: u8) -> RegisterInfo
 pub fn is_known(rid: u8) -> bool
     ensures { λ r. ⌜ r ≡ known rid ⌝ }
 {
-    let word = KNOWN_PLACES[(rid / 64) as usize];
-    (word >> ((rid % 64) as u64)) % 2 == 1
+    register_code(rid) != 0
 }
 
 // What a register holds. A NaN is kept as its 32 bits, since the language's f32 has one NaN only.
