@@ -5,7 +5,7 @@ use mathlib.Core.List.{List, [], _∷_}
 use lib.Ieee.{Float, binary32, neg, div}
 use Rattle.motor_core.specs.Model.{from-maxima}
 use Rattle.registers.specs.declared.RegisterValue.the-variants.{UInt32}
-use Rattle.frame.specs.Codes.{float}
+use Rattle.float.specs.Arithmetic.{float}
 use Rattle.setpoint.specs.Setpoint.{mit-cmd, force-pos-cmd}
 use Rattle.request.specs.Request.{register-read-cmd}
 use Rattle.received.specs.Received.{class-of, decoded, received}

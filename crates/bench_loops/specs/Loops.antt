@@ -5,7 +5,7 @@ use lib.ListN.{length, getD}
 use lib.Ieee.{Float, nan, binary32, div}
 use Rattle.motor_core.specs.Model.{from-maxima}
 use Rattle.motor_core.specs.declared.model.PvTLimits.{PvTLimits}
-use Rattle.frame.specs.Codes.{float, _⊕_}
+use Rattle.float.specs.Arithmetic.{float, _⊕_}
 use Rattle.setpoint.specs.Setpoint.{mit-data}
 use Rattle.received.specs.Received.{class-of, feedback-of}
 use Rattle.received.specs.declared.feedback.FrameClass.{FrameClass}

@@ -3,7 +3,7 @@
 ghost use mathlib.Core.Path.{_≡_};
 ghost use Prim.Native.Nat.{_+_, _*_, _≤_};
 ghost use lib.ListN.{length};
-ghost use Rattle.frame.specs.Codes.{float};
+ghost use Rattle.float.specs.Arithmetic.{float};
 ghost use Rattle.bench_loops.specs.Loops as Spec;
 use motor_core::model::LimitCheck;
 use motor_core::model::PvTLimits;

@@ -16,7 +16,8 @@ use lib.Ieee.Order.{round-mono}
 use lib.Ieee.Scale.{grid, round-val, round-under, round-same, normal-of-fraction}
 use lib.Ieee.Positive.{positive, between, positive-finite, positive-of-value, values-of-le, le→cross}
 use Rattle.motor_core.specs.Model.{limit-accepted}
-use Rattle.frame.specs.Codes.{float, float-to-uint}
+use Rattle.float.specs.Arithmetic.{float}
+use Rattle.frame.specs.Codes.{float-to-uint}
 use Rattle.float.specs.Float.{clip}
 use Rattle.float.proofs.AtMost.{AtMost, weaker, clip-at-most, mul-at-most, div-at-most, sub-minus, sub-nothing, span-minus, span-nothing, cut-at-most}
 use Rattle.float.proofs.Rounding.{round-up}

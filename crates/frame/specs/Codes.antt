@@ -1,28 +1,10 @@
 -- Floats as codes of so many bits, and back. Each operation is one of f32, rounded once to nearest even. Definitions only.
 use Prim.Native.Nat.{ℕ, _-_, _^_}
-use lib.IntN.{pos}
-use lib.Ieee.{Float, binary32, add, sub, mul, div, ofInt, toUnsigned}
+use lib.Ieee.{Float, toUnsigned}
+use Rattle.float.specs.Arithmetic.{_⊕_, _⊖_, _⊗_, _⊘_, float}
 use Rattle.float.specs.Float.{clip}
 use Rattle.frame.specs.declared.Width.{Width}
 use Rattle.frame.specs.declared.Width.the-variants.{Twelve, Sixteen}
-
-infixl 60 _⊕_ _⊖_
-infixl 70 _⊗_ _⊘_
-abbrev pub _⊕_ : Float → Float → Float
-x ⊕ y = add binary32 x y
-
-abbrev pub _⊖_ : Float → Float → Float
-x ⊖ y = sub binary32 x y
-
-abbrev pub _⊗_ : Float → Float → Float
-x ⊗ y = mul binary32 x y
-
-abbrev pub _⊘_ : Float → Float → Float
-x ⊘ y = div binary32 x y
-
--- a whole number as a float
-abbrev pub float : ℕ → Float
-float n = ofInt binary32 (pos n)
 
 -- the widths in use
 abbrev pub bits-in : Width → ℕ

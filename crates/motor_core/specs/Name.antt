@@ -1,8 +1,8 @@
 -- Names as byte strings. Definitions only.
-use Prim.Native.Nat.{_-_}
+use Prim.Native.Nat.{ℕ, _-_}
 use Prim.Native.String.{String}
-use mathlib.Core.List.{_++_}
-use lib.ListN.{length, replicate}
+use mathlib.Core.List.{List, _++_}
+use lib.ListN.{length, replicate, take}
 use Rattle.text.specs.Ascii.{ascii}
 use Rattle.motor_core.specs.declared.name.Name.{Name}
 
@@ -10,3 +10,7 @@ use Rattle.motor_core.specs.declared.name.Name.{Name}
 unfoldable pub name-of : String → Name
 unfolding ascii
 name-of s = record { bytes = ascii s ++ replicate (15 - length (ascii s)) 0x20; len = length (ascii s) }
+
+-- the bytes that a name spells
+abbrev pub spelling : Name → List ℕ
+spelling name = take (name .len) (name .bytes)

@@ -2,3 +2,7 @@
 pub const LIMIT: u8 = 1;
 
 pub const MOTOR_ID: u8 = 2;
+
+pub const QUERY: u8 = 11;
+
+pub const MODEL: u8 = 12;

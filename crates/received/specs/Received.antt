@@ -13,7 +13,8 @@ use Rattle.motor_core.specs.declared.model.LimitCheck.the-variants.{Accepted, R
 use Rattle.registers.specs.Registers.{registers, elem, data-type-of}
 use Rattle.registers.specs.Value.{value-of}
 use Rattle.registers.specs.declared.RegisterValue.{RegisterValue}
-use Rattle.frame.specs.Codes.{float, uint-to-float}
+use Rattle.float.specs.Arithmetic.{float}
+use Rattle.frame.specs.Codes.{uint-to-float}
 use Rattle.received.specs.declared.feedback.FrameClass.{FrameClass}
 use Rattle.received.specs.declared.feedback.FrameClass.the-variants as Class
 use Rattle.received.specs.declared.feedback.SensorFeedback.{SensorFeedback}

@@ -4,7 +4,8 @@ use mathlib.Core.Path.{_≡_, refl}
 use mathlib.Core.List.{[], _∷_}
 use Rattle.words.specs.Number.{digit-of, all-digits, value-of, digits-after, digits-of, number-of, limit-of, at-most, name-of, field-of}
 use Rattle.text.specs.Ascii.{ascii}
-use Rattle.words.specs.Word.{index-of, same, split}
+use Rattle.words.specs.Word.{index-of, split}
+use Rattle.text.specs.Text.{same}
 use Rattle.script.specs.Line.{calls, plain, bad-call, no-call, fields-of, call-from, call-of, parsed}
 use Rattle.script.specs.declared.Call.{Call}
 

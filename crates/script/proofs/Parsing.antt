@@ -11,7 +11,8 @@ use lib.Seq.{drop-cons}
 use lib.Dec.{leb, eqb}
 use borrow.Author.Tests.{lt-ltb, le-ltb, eq-eqb, ne-eqb}
 use Rattle.words.specs.Number.{field-of}
-use Rattle.words.specs.Word.{index-of, same, split, words-from}
+use Rattle.words.specs.Word.{index-of, split, words-from}
+use Rattle.text.specs.Text.{same}
 use Rattle.script.specs.Line.{bad-call, no-call, calls, with-value, fields-of, call-from, call-of, has, passed-over, parsed}
 use Rattle.words.specs.declared.Read.{Read}
 use Rattle.words.specs.declared.Read.the-variants.{Value, Bad}

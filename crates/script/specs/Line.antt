@@ -8,7 +8,8 @@ use lib.ListN.{length, set, replicate}
 use lib.Dec.{ltb, eqb}
 use Rattle.words.specs.Number.{field-of}
 use Rattle.text.specs.Ascii.{ascii}
-use Rattle.words.specs.Word.{index-of, same, split}
+use Rattle.words.specs.Word.{index-of, split}
+use Rattle.text.specs.Text.{same}
 use Rattle.words.specs.declared.Read.{Read}
 use Rattle.words.specs.declared.Read.the-variants.{Value, Bad}
 use Rattle.script.specs.declared.Call.{Call}

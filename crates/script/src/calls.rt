@@ -1,10 +1,10 @@
 // A line as a call, by a table of the calls' words and the kinds of their arguments.
 use crate::Call;
 use crate::MAX_LINE;
+use text::same_bytes;
 use words::Read;
 use words::field;
 use words::index_of;
-use words::same_bytes;
 ghost use mathlib.Core.Path.{_≡_};
 ghost use lib.ListN.{replicate};
 ghost use Rattle.words.specs.Word.{split, words-from};

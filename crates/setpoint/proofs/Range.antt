@@ -15,7 +15,8 @@ use Rattle.motor_core.specs.Model.{limit-accepted, limits-of}
 use Rattle.motor_core.specs.declared.model.PvTLimits.{PvTLimits}
 use Rattle.motor_core.specs.declared.model.LimitCheck.the-variants.{Accepted}
 use Rattle.motor_core.proofs.Limits.{accepted-limits}
-use Rattle.frame.specs.Codes.{float, float-to-uint}
+use Rattle.float.specs.Arithmetic.{float}
+use Rattle.frame.specs.Codes.{float-to-uint}
 use Rattle.frame.proofs.Range.{range, ofInt-is}
 use Rattle.setpoint.specs.Setpoint.{scaled}
 

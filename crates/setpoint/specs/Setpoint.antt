@@ -7,7 +7,8 @@ use Rattle.motor_core.specs.Model.{limits-of}
 use Rattle.motor_core.specs.declared.model.PvTLimits.{PvTLimits}
 use Rattle.motor_core.specs.declared.model.LimitCheck.{LimitCheck}
 use Rattle.motor_core.specs.declared.model.LimitCheck.the-variants.{Accepted, Refused as BadLimits}
-use Rattle.frame.specs.Codes.{float, _⊗_, float-to-uint}
+use Rattle.float.specs.Arithmetic.{float, _⊗_}
+use Rattle.frame.specs.Codes.{float-to-uint}
 use Rattle.frame.specs.Layout.{field, packed, packed-onto, little-endian, bytes}
 use Rattle.frame.specs.Command.{frame-for}
 use Rattle.frame.specs.declared.Command.{Command}

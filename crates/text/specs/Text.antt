@@ -1,11 +1,17 @@
--- Numbers as text, and text put into a buffer.
+-- Texts that are the same, numbers as text, and text put into a buffer.
 use Prim.Native.Nat.{ℕ, zero, suc, _+_, _-_, _/_, _%_, min}
 use Prim.Native.Char.{code}
-use mathlib.Core.Bool.{cond}
+use mathlib.Core.Bool.{Bool, true, false, cond, _&&_}
 use mathlib.Core.List.{List, [], _∷_, _++_}
 use lib.ListN.{length}
 use lib.Seq.{paste}
 use lib.Dec.{ltb, eqb}
+
+unfoldable pub same : List ℕ → List ℕ → Bool
+same [] [] = true
+same [] (y ∷ ys) = false
+same (x ∷ xs) [] = false
+same (x ∷ xs) (y ∷ ys) = eqb x y && same xs ys
 
 -- how many bytes of the text the buffer has room for, from place at on
 abbrev pub fitting : List ℕ → ℕ → List ℕ → ℕ

@@ -1,9 +1,27 @@
-// Bytes and numbers put into a buffer. What does not fit is dropped.
+// Byte strings: comparing them, and putting bytes and numbers into a buffer, where what does not
+// fit is dropped.
 ghost use mathlib.Core.Path.{_≡_};
 ghost use Prim.Native.Nat.{_≤_, _<_, min};
 ghost use lib.ListN.{length, take, drop};
-ghost use Rattle.text.specs.Text.{put-at, place-after, digits, trimmed, decimal, hexadecimal};
+ghost use Rattle.text.specs.Text.{same, put-at, place-after, digits, trimmed, decimal, hexadecimal};
 ghost use Rattle.text.specs.Text.{glyph as Text·glyph};
+
+// Whether the two are of one length and the same byte for byte.
+pub fn same_bytes(a: &[u8], b: &[u8]) -> bool
+    ensures { λ r. ⌜ r ≡ same (now (a .entry)) (now (b .entry)) ⌝ }
+{
+    if a.len() != b.len() {
+        return false;
+    }
+    let mut i = 0;
+    while i < a.len() {
+        if a[i] != b[i] {
+            return false;
+        }
+        i += 1;
+    }
+    true
+}
 
 // Puts `text` into `out` from `at` on, and answers the place after it.
 pub fn put(out: &mut [u8], at: usize, text: &[u8]) -> usize

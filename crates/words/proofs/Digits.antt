@@ -1,7 +1,7 @@
 -- Laws of `specs/Number.antt`'s digits. Assumes nothing.
 use Prim.Native.Nat.{ℕ, suc, _+_, _-_, _*_, _/_, _^_, _≤_, _<_}
 use mathlib.Core.Path.{_≡_, sym, ap, _∙_}
-use mathlib.Core.Bool.{false}
+use mathlib.Core.Bool.{false, and-false}
 use mathlib.Core.List.{List, [], _∷_}
 use native.Mathlib.Nat.{le-trans, le-refl, le-of-eq, mul-le-mul-left, mul-le-mul-right, mul-one, div-mul-le-self, div-lt-iff-lt-mul}
 use native.Mathlib.Numerals.{add-one}
@@ -11,7 +11,6 @@ use lib.Seq.{drop-cons}
 use borrow.Author.Tests.{le-leb, lt-leb, lt-ltb, le-ltb}
 use Rattle.words.specs.Number.{between, digit-of, all-digits, value-of, digits-after, digits-of}
 use Rattle.words.specs.declared.Read.the-variants.{Value, Bad}
-use Rattle.words.proofs.Words.{and-false}
 
 -- ---- a digit, by the range that it lies in
 pub decimal : (b : ℕ) → 48 ≤ b → b ≤ 57 → digit-of b ≡ b - 48

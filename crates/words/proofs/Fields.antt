@@ -1,6 +1,7 @@
 -- Laws of `specs/Number.antt`'s numbers and fields, by the tests of the code. Assumes nothing.
 use Prim.Native.Nat.{ℕ, _≤_, _<_}
 use mathlib.Core.Path.{_≡_, refl, ap, _∙_}
+use mathlib.Core.Bool.{and-false}
 use mathlib.Core.List.{List, [], _∷_}
 use native.Mathlib.Nat.{le-of-eq, not-suc-le-zero, le-of-suc-le-suc}
 use lib.ListN.{length, getD, drop}
@@ -8,7 +9,6 @@ use borrow.Author.Tests.{eq-eqb, ne-eqb, le-leb, lt-leb}
 use Rattle.words.specs.Number.{digits-of, number-of, limit-of, at-most, name-of, field-of}
 use Rattle.words.specs.declared.Read.{Read}
 use Rattle.words.specs.declared.Read.the-variants.{Value, Bad}
-use Rattle.words.proofs.Words.{and-false}
 
 -- ---- decimal or hexadecimal
 pub short : (s : List ℕ) → length s < 2 → number-of s ≡ digits-of 10 s

@@ -1,7 +1,7 @@
 -- Laws of `specs/Word.antt`. Assumes nothing.
 use Prim.Native.Nat.{ℕ, zero, suc, _+_, _-_, _≤_, _<_, zero-le, suc-le-suc}
 use mathlib.Core.Path.{_≡_, refl, sym, ap, _∙_}
-use mathlib.Core.Bool.{Bool, true, false, cond, _&&_}
+use mathlib.Core.Bool.{Bool, true, false, cond}
 use mathlib.Core.List.{List, [], _∷_}
 use native.Mathlib.Nat.{add-zero, add-suc, suc-add}
 use native.Mathlib.Numerals.{add-one}
@@ -10,11 +10,7 @@ use lib.ListN.{length, getD, take, drop, length-drop, drop-of-length-le}
 use lib.Seq.{drop-cons, drop-drop}
 use lib.Dec.{eqb, ltb, leb·zero, leb·suc-suc}
 use borrow.Author.Tests.{eq-eqb, ne-eqb, lt-ltb, le-leb, lt-leb, ltb-true, ltb-false}
-use Rattle.words.specs.Word.{index-of, same, split, words-from, longer, second}
-
-pub and-false : (t : Bool) → t && false ≡ false
-and-false true = refl
-and-false false = refl
+use Rattle.words.specs.Word.{index-of, split, words-from, longer, second}
 
 -- ---- the first place of a byte, by the byte at i
 pub hit : (s : List ℕ) (i b : ℕ) → i < length s → getD s i 0 ≡ b → i + index-of b (drop i s) ≡ i
@@ -36,34 +32,6 @@ miss s i b h e =
 pub none : (s : List ℕ) (i b : ℕ) → length s ≤ i → i + index-of b (drop i s) ≡ i
 unfolding index-of
 none s i b h = ap (λ (l : List ℕ). i + index-of b l) (drop-of-length-le s h) ∙ add-zero i
-
--- ---- the same bytes
-pub same-length : (a b : List ℕ) → (length a ≡ length b → ⊥) → same a b ≡ false
-unfolding same
-same-length [] [] h = absurd (h refl)
-same-length [] (y ∷ ys) h = refl
-same-length (x ∷ xs) [] h = refl
-same-length (x ∷ xs) (y ∷ ys) h =
-    ap (λ (t : Bool). eqb x y && t) (same-length xs ys (λ e. h (ap suc e))) ∙ and-false (eqb x y)
-
-pub same-not : (a b : List ℕ) (i : ℕ) → i < length a → i < length b → (getD a i 0 ≡ getD b i 0 → ⊥) → same (drop i a) (drop i b) ≡ false
-unfolding same
-same-not a b i h k e =
-    ap (λ (l : List ℕ). same l (drop i b)) (drop-cons a i 0 h)
-    ∙ ap (same (getD a i 0 ∷ drop (suc i) a)) (drop-cons b i 0 k)
-    ∙ ap (λ (t : Bool). t && same (drop (suc i) a) (drop (suc i) b)) (ne-eqb (getD a i 0) (getD b i 0) e)
-
-pub same-next : (a b : List ℕ) (i : ℕ) → i < length a → i < length b → getD a i 0 ≡ getD b i 0 → same (drop i a) (drop i b) ≡ same (drop (i + 1) a) (drop (i + 1) b)
-unfolding same
-same-next a b i h k e =
-    ap (λ (l : List ℕ). same l (drop i b)) (drop-cons a i 0 h)
-    ∙ ap (same (getD a i 0 ∷ drop (suc i) a)) (drop-cons b i 0 k)
-    ∙ ap (λ (t : Bool). t && same (drop (suc i) a) (drop (suc i) b)) (eq-eqb (getD a i 0) (getD b i 0) e)
-    ∙ ap (λ (n : ℕ). same (drop n a) (drop n b)) (sym (add-one i))
-
-pub same-end : (a b : List ℕ) (i : ℕ) → length a ≤ i → length b ≤ i → same (drop i a) (drop i b) ≡ true
-unfolding same
-same-end a b i h k = ap (λ (l : List ℕ). same l (drop i b)) (drop-of-length-le a h) ∙ ap (same []) (drop-of-length-le b k)
 
 -- ---- the words from a place on
 pub index-le : (b : ℕ) (s : List ℕ) → index-of b s ≤ length s

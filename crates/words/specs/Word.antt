@@ -1,7 +1,7 @@
 -- The words of a line: what stands between its spaces. Two spaces in a row, or one at either end, make an empty word.
 use Prim.Native.Nat.{ℕ, zero, suc}
 use Prim.Native.Char.{code}
-use mathlib.Core.Bool.{Bool, true, false, cond, _&&_}
+use mathlib.Core.Bool.{cond}
 use mathlib.Core.List.{List, [], _∷_}
 use lib.ListN.{length, drop}
 use lib.Dec.{leb, eqb}
@@ -10,12 +10,6 @@ use lib.Dec.{leb, eqb}
 unfoldable pub index-of : ℕ → List ℕ → ℕ
 index-of b [] = zero
 index-of b (x ∷ rest) = cond (eqb x b) zero (suc (index-of b rest))
-
-unfoldable pub same : List ℕ → List ℕ → Bool
-same [] [] = true
-same [] (y ∷ ys) = false
-same (x ∷ xs) [] = false
-same (x ∷ xs) (y ∷ ys) = eqb x y && same xs ys
 
 -- x put before the first word
 abbrev pub longer : ℕ → List (List ℕ) → List (List ℕ)

@@ -6,7 +6,7 @@ pub use numbers::number;
 ghost use mathlib.Core.Path.{_≡_};
 ghost use Prim.Native.Nat.{_+_};
 ghost use lib.ListN.{drop};
-ghost use Rattle.words.specs.Word.{index-of, same, split, second};
+ghost use Rattle.words.specs.Word.{index-of, split, second};
 
 // A word that has a value, or has none.
 pub enum Read {
@@ -26,23 +26,6 @@ pub fn index_of(s: &[u8], from: usize, byte: u8) -> usize
         i += 1;
     }
     i
-}
-
-// Whether the two are of one length and the same byte for byte.
-pub fn same_bytes(a: &[u8], b: &[u8]) -> bool
-    ensures { λ r. ⌜ r ≡ same (now (a .entry)) (now (b .entry)) ⌝ }
-{
-    if a.len() != b.len() {
-        return false;
-    }
-    let mut i = 0;
-    while i < a.len() {
-        if a[i] != b[i] {
-            return false;
-        }
-        i += 1;
-    }
-    true
 }
 
 // The word after the first: the name in a line of `start-model`. Empty where there is none.

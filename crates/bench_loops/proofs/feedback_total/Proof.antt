@@ -3,7 +3,7 @@ use mathlib.Core.Path.{_≡_, refl, ap, _∙_}
 use Prim.Native.Nat.{_≤_, _-_, _*_}
 use lib.Ieee.{ofBits, ofInt}
 use borrow.Author.Needs.{needs}
-use Rattle.frame.specs.Codes.{float, _⊕_}
+use Rattle.float.specs.Arithmetic.{float, _⊕_}
 use Rattle.received.specs.Received.{feedback-of}
 use Rattle.bench_loops.specs.Loops.{total, frame, reading}
 use Rattle.bench_loops.proofs.Totals.{one-more, reached}

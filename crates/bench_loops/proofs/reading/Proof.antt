@@ -1,7 +1,7 @@
 -- `bench_loops::reading` meets its contract. Assumes nothing.
 use mathlib.Core.Path.{_≡_, ap₂}
 use lib.Ieee.{Float}
-use Rattle.frame.specs.Codes.{float, _⊕_}
+use Rattle.float.specs.Arithmetic.{float, _⊕_}
 use Rattle.received.specs.declared.feedback.SensorFeedback.{SensorFeedback}
 use Rattle.bench_loops.specs.Loops.{reading}
 use borrow.Author.Needs.{needs}

@@ -6,7 +6,8 @@ use Prim.Native.Nat.{_%_}
 use lib.Ieee.{Float}
 use Rattle.motor_core.specs.declared.model.PvTLimits.{PvTLimits}
 use Rattle.received.specs.Received.{d}
-use Rattle.frame.specs.Codes.{float, uint-to-float}
+use Rattle.float.specs.Arithmetic.{float}
+use Rattle.frame.specs.Codes.{uint-to-float}
 use Rattle.received.specs.declared.feedback.SensorFeedback.{SensorFeedback}
 use mathlib.Core.Path.{_≡_}
 use Prim.Native.Nat.{ℕ, _+_, _*_, _/_}

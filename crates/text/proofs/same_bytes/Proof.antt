@@ -1,12 +1,12 @@
--- `words::same_bytes` meets its contract. The invariant: the slices are the same where their rests from i on are. Assumes nothing.
+-- `text::same_bytes` meets its contract. The invariant: the slices are the same where their rests from i on are. Assumes nothing.
 use Prim.Native.Nat.{_-_}
 use mathlib.Core.Path.{_≡_, refl, sym, _∙_}
 use native.Mathlib.Omega.{arith}
 use lib.ListN.{length, drop}
-use Rattle.words.specs.Word.{same}
-use Rattle.words.proofs.Words.{same-length, same-next, same-not, same-end}
-use Rattle.words.proofs.same_bytes.Statement.{statement}
-use Rattle.words.proofs.same_bytes.Tie as tie
+use Rattle.text.specs.Text.{same}
+use Rattle.text.proofs.Same.{same-length, same-next, same-not, same-end}
+use Rattle.text.proofs.same_bytes.Statement.{statement}
+use Rattle.text.proofs.same_bytes.Tie as tie
 
 abbrev Inv-loop : tie.InvT-loop
 Inv-loop a b i₀ i = same a b ≡ same (drop i a) (drop i b)

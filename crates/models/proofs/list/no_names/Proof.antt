@@ -1,0 +1,14 @@
+-- `models::list::no_names` meets its contract. Assumes nothing.
+use mathlib.Core.Path.{refl}
+use Rattle.text.specs.Ascii.{ascii}
+use Rattle.motor_core.specs.Name.{name-of}
+use Rattle.models.specs.Listing.{names-of}
+use Rattle.models.proofs.list.no_names.Statement.{statement}
+use Rattle.models.proofs.list.no_names.Tie as tie
+
+returns : tie.Need-returns
+unfolding names-of name-of ascii
+returns c = refl
+
+pub no-names-spec : {M : Type 1} → statement M
+no-names-spec = tie.close (tie.spec returns)

@@ -1,0 +1,17 @@
+-- `models::matching::refused` meets its contract. Assumes nothing.
+use mathlib.Core.Path.{ap}
+use Rattle.models.specs.declared.list.Names.{Names}
+use Rattle.models.specs.declared.matching.Listing.{Listing}
+use Rattle.models.specs.declared.matching.Outcome.the-variants.{Refused}
+use borrow.Author.Needs.{needs}
+use Rattle.models.proofs.matching.refused.Statement.{statement}
+use Rattle.models.proofs.matching.refused.Tie as tie
+
+no-names-requires : tie.Need-no-names-requires
+no-names-requires c κs = search needs
+
+returns : tie.Need-returns
+returns c = λ i. record { outcome = Refused 11; names = c .no-names .ensures i }
+
+pub refused-spec : {M : Type 1} → statement M
+refused-spec = tie.close (tie.spec no-names-requires returns)

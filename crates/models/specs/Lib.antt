@@ -1,0 +1,4 @@
+pub mod Listing
+pub mod Models
+pub mod Display
+pub mod Matching

@@ -1,0 +1,20 @@
+-- Lists of a fixed length with a count, and the answer that is such a list or a refusal. Definitions only.
+use Prim.Native.Nat.{ℕ, _-_}
+use mathlib.Core.List.{List, [], _++_}
+use lib.ListN.{length, replicate, take}
+use Rattle.motor_core.specs.Name.{name-of}
+use Rattle.motor_core.specs.declared.name.Name.{Name}
+use Rattle.models.specs.declared.list.MotorModelSpec.{MotorModelSpec}
+use Rattle.models.specs.declared.list.ModelList.{ModelList}
+use Rattle.models.specs.declared.list.Names.{Names}
+
+-- the models of a list, and the names
+abbrev pub models-of : ModelList → List MotorModelSpec
+models-of list = take (list .count) (list .models)
+
+abbrev pub held : Names → List Name
+held names = take (names .count) (names .names)
+
+-- at most 16 names, the places after them empty
+unfoldable pub names-of : List Name → Names
+names-of names = record { names = names ++ replicate (16 - length names) (name-of ""); count = length names }
