@@ -2,3 +2,8 @@ pub mod Nans
 pub mod Truncating
 pub mod Rounding
 pub mod AtMost
+pub mod WholeRoot
+pub mod RootRound
+pub mod RootNear
+pub mod RootLaw
+pub mod RootCases

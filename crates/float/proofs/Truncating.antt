@@ -21,7 +21,7 @@ unsigned-of-value w (fin true m e) a c C h = absurd (true≢false (h .0))
 unsigned-of-value w (fin false m e) a c C h = ap (λ (q : ℕ). min q (2 ^ w - 1)) (div-same (m * up e) (down e) a c (down-pos e) C (h .1))
 
 -- ---- what the fields are read as
-bits-are : (b : ℕ) → ofBits binary32 b ≡ ofFields binary32 (leb 2147483648 b) (b % 2147483648 / 8388608) (b % 8388608)
+pub bits-are : (b : ℕ) → ofBits binary32 b ≡ ofFields binary32 (leb 2147483648 b) (b % 2147483648 / 8388608) (b % 8388608)
 unfolding ofBits
 bits-are b = refl
 

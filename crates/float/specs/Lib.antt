@@ -1,2 +1,3 @@
 pub mod Arithmetic
 pub mod Float
+pub mod Root
