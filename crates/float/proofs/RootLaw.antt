@@ -8,7 +8,7 @@ use lib.Dec.{T, leb, leb→le, nleb→lt}
 use lib.Pow.{pow-add, pow-pos, pow-mono}
 use lib.Ieee.{Float, nan, inf, fin, binary32, size, fits}
 use lib.Ieee.Digits.{size-lt, size-le, size-reaches}
-use Rattle.float.specs.Root.{in-units, whole-root, rounded-root, root, NearRoot, IsRoot}
+use Rattle.float.specs.Root.{whole-root, rounded-root, root, NearRoot, IsRoot}
 use Rattle.float.proofs.WholeRoot.{root-sq-le, lt-next-sq}
 use Rattle.float.proofs.RootRound.{rounded-down, rounded-up}
 use Rattle.float.proofs.RootNear.{units-of, in-units-is, near-down, near-up}

@@ -1,24 +1,24 @@
 -- `rounded-root` of m * 4 ^ k, with an m of 47 or 48 binary digits, by the whole part s of m's root: s units of 2 ^ k, or s + 1. The cut to whole units does not show, since k is 51 at least. Assumes nothing.
 use mathlib.Core.Path.{_≡_, refl, sym, ap, _∙_, subst}
-use Prim.Native.Nat.{ℕ, zero, suc, _+_, _-_, _*_, _/_, _%_, _^_, _≤_, _<_, compare, Ordering, Ordering·lt, Ordering·eq, Ordering·gt}
-use native.Mathlib.Nat.{le-refl, le-trans, le-of-eq, le-of-lt, le-antisymm, le-of-suc-le-suc, lt-of-le-of-lt, lt-of-lt-of-le, lt-of-not-le, not-le-of-lt, le-add-right, mul-le-mul-left, mul-le-mul-right, mul-lt-mul-of-pos-right, mul-pos, mul-assoc, mul-div-cancel, pow-suc}
+use Prim.Native.Nat.{ℕ, suc, _+_, _-_, _*_, _/_, _%_, _^_, _≤_, _<_, compare, Ordering, Ordering·lt, Ordering·eq, Ordering·gt}
+use native.Mathlib.Nat.{le-refl, le-trans, le-of-eq, le-antisymm, le-of-suc-le-suc, lt-of-le-of-lt, lt-of-lt-of-le, lt-of-not-le, not-le-of-lt, le-add-right, mul-le-mul-right, mul-lt-mul-of-pos-right, mul-pos, mul-assoc, mul-div-cancel, pow-suc}
 use native.Mathlib.Numerals.{add-one}
 use native.Mathlib.Omega.{arith}
 use mathlib.Core.Bool.{Bool, true, false, not, cond}
-use lib.Dec.{T, leb, leb→le, nleb→lt, lit<, lit≤}
+use lib.Dec.{T, leb, leb→le, nleb→lt, lit≤}
 use lib.Pow.{pow-add, pow-pos, pow-mono, pow-lt, high, low}
-use lib.Ieee.{Float, nan, inf, fin, binary32, prec, hid, top, up, down, size, nearest, round, fits, isNan, toBits, ofBits, nanBits}
+use lib.Ieee.{Float, nan, inf, fin, binary32, prec, hid, top, down, size, nearest, round, fits, isNan, toBits, ofBits, nanBits}
 use lib.Ieee.Digits.{size-lt, size-le}
 use lib.Ieee.Fits.{down-pos, round-fits}
 use lib.Ieee.Bits.{ofBits-toBits, ofBits-fits, nanBits-is}
 use lib.Ieee.Exact.{HasValue}
 use lib.Ieee.Nearest.{closest, closest-same}
-use lib.Ieee.Order.{drop, kept}
+use lib.Ieee.Order.{drop}
 use lib.Ieee.Scale.{grid, round-val}
 use Rattle.float.specs.Root.{whole-root, rounded-root, in-units}
 use Rattle.float.proofs.Rounding.{Cmp, cmp}
 use Rattle.float.proofs.Truncating.{val, bits-value}
-use Rattle.float.proofs.WholeRoot.{sq-le, lt-of-sq-lt, root-sq-le, root-ge, root-lt}
+use Rattle.float.proofs.WholeRoot.{lt-of-sq-lt, root-sq-le, root-ge, root-lt}
 
 -- ---- a value's size in units, and the value of a size
 pub units-of-value : (x : Float) (a : ℕ) → HasValue x false a (2 ^ 149) → in-units x ≡ a

@@ -1,8 +1,8 @@
 -- `float::root::rounded_root` meets its contract: `proofs/RootRound.antt` has what each way rounds to. Assumes nothing.
-use mathlib.Core.Path.{_≡_, sym, ap, _∙_, subst}
+use mathlib.Core.Path.{sym, ap, _∙_, subst}
 use mathlib.Core.Logic.{⊎-elim}
 use Prim.Native.Nat.{ℕ, _+_, _-_, _*_, _^_, _≤_, _<_}
-use native.Mathlib.Nat.{le-refl, le-trans, le-of-eq, lt-of-le-of-lt, le-add-right}
+use native.Mathlib.Nat.{le-trans, le-of-eq, lt-of-le-of-lt, le-add-right}
 use native.Mathlib.Numerals.{add-one}
 use native.Mathlib.Omega.{arith}
 use lib.Dec.{lit<}
@@ -27,11 +27,13 @@ y-ge c =
     le-trans (digits-ge (c .before .before .args .m) s (c .before .before .pre .0) (hi (c .before)))
     (⊎-elim (λ w. subst (λ (y : ℕ). s ≤ y) (sym (w .1)) (le-add-right s 1)) (λ w. le-of-eq (sym (w .1))) (c .if1 .came))
 
+next-le : (c : tie.After-whole-root) → c .whole-root .result + 1 ≤ 2 ^ 24
+next-le c = le-trans (le-of-eq (add-one (c .whole-root .result))) (digits-lt (c .before .args .m) (c .whole-root .result) (c .before .pre .1) (lo c))
+
 y-le : (c : tie.Joined1) → c .if1 .y ≤ 2 ^ 24
 y-le c =
     let s = c .before .whole-root .result in
-    le-trans (⊎-elim (λ w. le-of-eq (w .1)) (λ w. subst (λ (y : ℕ). y ≤ s + 1) (sym (w .1)) (le-add-right s 1)) (c .if1 .came))
-    (le-trans (le-of-eq (add-one s)) (digits-lt (c .before .before .args .m) s (c .before .before .pre .1) (lo (c .before))))
+    le-trans (⊎-elim (λ w. le-of-eq (w .1)) (λ w. subst (λ (y : ℕ). y ≤ s + 1) (sym (w .1)) (le-add-right s 1)) (c .if1 .came)) (next-le (c .before))
 
 whole-root-requires : tie.Need-whole-root-requires
 whole-root-requires c κs = search needs
@@ -43,7 +45,7 @@ sub-if1 : tie.Need-sub-if1
 sub-if1 c = lo c
 
 add-y : tie.Need-add-y
-add-y c = search needs
+add-y c = record { fits = lt-of-le-of-lt (next-le (c .before)) (lit< tt) }
 
 mul-result : tie.Need-mul-result
 mul-result c = search needs

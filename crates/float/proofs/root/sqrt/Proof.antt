@@ -95,18 +95,13 @@ even-range b m e = omega arith
 odd-range : (b m : ℕ) → m ≡ (b % 8388608 + 8388608) * 8388608 → (70368744177664 ≤ m) × (m < 281474976710656)
 odd-range b m e = omega arith
 
-k-ge : (b : ℕ) → 51 ≤ (b / 8388608 + 125) / 2
-k-ge b = omega arith
-
-k-lt : (b : ℕ) → b < 2139095040 → (b / 8388608 + 125) / 2 < 250
-k-lt b h = omega arith
-
 rounded-root-requires-2 : tie.Need-rounded-root-requires-2
 rounded-root-requires-2 c κs =
     let e4 = c .before .before in
     let b = toBits binary32 (e4 .before .before .before .before .args .x) in
+    let small = under e4 in
     let range : (70368744177664 ≤ c .if6 .m) × (c .if6 .m < 281474976710656) = ⊎-elim (λ w. even-range b (c .if6 .m) (w .1)) (λ w. odd-range b (c .if6 .m) (w .1)) (c .if6 .came) in
-    (range .0, range .1, k-ge b, k-lt b (under e4))
+    (range .0, range .1, omega arith, omega arith)
 
 returns-6 : tie.Need-returns-6
 returns-6 c =
