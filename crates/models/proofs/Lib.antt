@@ -3,4 +3,5 @@ pub mod Lists
 pub mod Magnitude
 pub mod Order
 pub mod Ranking
+pub mod Shown
 pub mod Tests
