@@ -3,7 +3,7 @@ use mathlib.Core.Path.{refl}
 use lib.Ieee.{round, div, ofInt, neg, le, sub, mul, add, toUnsigned}
 use Rattle.float.specs.Float.{clip}
 use Rattle.motor_core.specs.Model.{limits-of, limit-accepted}
-use Rattle.models.specs.Matching.{queryable, query-accepted, magnitude, within, matches, keep, matching-names, match-models}
+use Rattle.matching.specs.Matching.{queryable, query-accepted, magnitude, within, matches, keep, matching-names, answer}
 use Rattle.models.specs.Models.{damiao-models}
 use Rattle.registers.specs.Registers.{registers, elem, data-type-of}
 use Rattle.registers.specs.Value.{value-of}
@@ -17,7 +17,7 @@ use Rattle.received.specs.Status.{status-name}
 use Rattle.bench_cases.specs.Star.{Star}
 
 pub star : Star
-unfolding round div ofInt neg le sub mul add toUnsigned clip limits-of limit-accepted registers elem data-type-of value-of float-to-uint uint-to-float packed-onto little-endian bytes mit-cmd mit-data frame-for force-pos-data scaled register-read-data addressed class feedback-of decoded received register-value status-name queryable query-accepted magnitude within matches keep matching-names match-models damiao-models
+unfolding round div ofInt neg le sub mul add toUnsigned clip limits-of limit-accepted registers elem data-type-of value-of float-to-uint uint-to-float packed-onto little-endian bytes mit-cmd mit-data frame-for force-pos-data scaled register-read-data addressed class feedback-of decoded received register-value status-name queryable query-accepted magnitude within matches keep matching-names answer damiao-models
 star = record {
   mit-all-zero = refl;
   mit-all-at-maximum = refl;
