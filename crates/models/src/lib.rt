@@ -3,3 +3,4 @@
 pub mod display;
 pub mod list;
 pub mod matching;
+pub mod suggestion;
