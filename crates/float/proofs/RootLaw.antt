@@ -1,16 +1,18 @@
--- The definition of the root is right: for every `f32`, `root` gives what `IsRoot` asks for, so above 0 the `f32` nearest to the exact root. Assumes nothing.
+-- The definition of the root is right: for every `f32` x, `root x` is what `IsRoot x` asks for (`nearest`), so above 0 the `f32` nearest to the exact root, and nothing else is (`only`). Assumes nothing.
 use mathlib.Core.Path.{_≡_, refl, sym, ap, _∙_, subst}
 use Prim.Native.Nat.{ℕ, zero, suc, _+_, _-_, _*_, _/_, _%_, _^_, _≤_, _<_}
-use native.Mathlib.Nat.{le-trans, le-of-eq, lt-of-le-of-lt, lt-of-lt-of-le, lt-of-not-le, not-le-of-lt, mul-assoc, mul-le-mul-right, mul-lt-mul-of-pos-right, zero-lt-suc}
+use native.Mathlib.Nat.{le-trans, le-of-eq, lt-of-le-of-lt, lt-of-lt-of-le, lt-of-not-le, not-le-of-lt, lt-irrefl, lt-trans, add-comm, mul-assoc, mul-le-mul-right, mul-lt-mul-of-pos-right, zero-lt-suc}
 use native.Mathlib.Omega.{arith}
 use mathlib.Core.Bool.{Bool, true, false, not}
 use lib.Dec.{T, leb, leb→le, nleb→lt}
 use lib.Pow.{pow-add, pow-pos, pow-mono}
-use lib.Ieee.{Float, nan, inf, fin, binary32, size, fits}
+use lib.Ieee.{Float, nan, inf, fin, binary32, down, size, fits}
 use lib.Ieee.Digits.{size-lt, size-le, size-reaches}
-use Rattle.float.specs.Root.{whole-root, rounded-root, root, NearRoot, IsRoot}
+use lib.Ieee.Exact.{HasValue}
+use lib.Ieee.Positive.{positive}
+use Rattle.float.specs.Root.{in-units, whole-root, rounded-root, root, NearRoot, IsRoot}
 use Rattle.float.proofs.WholeRoot.{root-sq-le, lt-next-sq}
-use Rattle.float.proofs.RootRound.{rounded-down, rounded-up}
+use Rattle.float.proofs.RootRound.{same-value, rounded-down, rounded-up}
 use Rattle.float.proofs.RootNear.{units-of, in-units-is, near-down, near-up}
 
 -- n as m * 4 ^ k, with an m of 47 or 48 digits
@@ -93,3 +95,33 @@ nearest (fin false (suc m) e) f =
     let w = units-of false (suc m) e f in
     subst (λ (u : ℕ). NearRoot u (rounded-root (u * 2 ^ 149))) (sym (in-units-is false (suc m) e w))
     (near (suc m * 2 ^ (w .power)) (scaled (suc m) (w .power) (zero-lt-suc m) (w .few) (w .fine)))
+
+-- ---- and no other value is
+value-in-units : (r : Float) → T (fits binary32 r) → T (positive r) → HasValue r false (in-units r) (2 ^ 149)
+value-in-units nan f p = absurd p
+value-in-units (inf s) f p = absurd p
+value-in-units (fin true m e) f p = absurd p
+value-in-units (fin false m e) f p = let w = units-of false m e f in (refl, w .is ∙ ap (λ (x : ℕ). x * down e) (sym (in-units-is false m e w)))
+
+one-near : (u : ℕ) (r t : Float) → NearRoot u r → NearRoot u t → r ≡ t
+one-near u r t h k =
+    same-value r t (in-units r) (h .is-f32) (k .is-f32) (value-in-units r (h .is-f32) (h .above-zero))
+    (subst (λ (a : ℕ). HasValue t false a (2 ^ 149)) (sym (level (in-units r) (in-units t) (no-gap r t h k) (no-gap t r k h))) (value-in-units t (k .is-f32) (k .above-zero)))
+  where
+    level : (a b : ℕ) → (a < b → ⊥) → (b < a → ⊥) → a ≡ b
+    level a b h k = omega arith
+
+    -- the root would be on both sides of their midpoint
+    no-gap : (r t : Float) → NearRoot u r → NearRoot u t → in-units r < in-units t → ⊥
+    no-gap r t h k g =
+        lt-irrefl (4 * (u * 2 ^ 149))
+        (lt-trans (h .over t (k .is-f32) g) (subst (λ (x : ℕ). x * x < 4 * (u * 2 ^ 149)) (add-comm (in-units t) (in-units r)) (k .under r (h .is-f32) g)))
+
+pub only : (x r : Float) → T (fits binary32 x) → IsRoot x r → r ≡ root x
+unfolding IsRoot root
+only nan r f h = h
+only (inf true) r f h = h
+only (inf false) r f h = h
+only (fin s zero e) r f h = h
+only (fin true (suc m) e) r f h = h
+only (fin false (suc m) e) r f h = one-near (in-units (fin false (suc m) e)) r (root (fin false (suc m) e)) h (nearest (fin false (suc m) e) f)

@@ -11,6 +11,7 @@ use lib.Dec.{T, leb, ltb, eqb, leb→le, nleb→lt, ltb→lt, lit<}
 use lib.Pow.{pow-add, pow-pos, pow-mono, pow-lt}
 use lib.Ieee.{Float, nan, inf, fin, binary32, up, down, fits, ofBits}
 use lib.Ieee.Fits.{and-l, and-r, down-pos}
+use lib.Ieee.Bits.{ofBits-fits}
 use lib.Ieee.Positive.{positive-of-value}
 use Rattle.float.specs.Root.{in-units, NearRoot}
 use Rattle.float.proofs.WholeRoot.{sq-le}
@@ -144,6 +145,7 @@ module _ (u m k : ℕ) (scaled : u * 2 ^ 149 ≡ m * 2 ^ (k + k)) (k-lt : k < 25
       let e : y * 2 ^ k ≡ in-units r = sym (units-of-value r (y * 2 ^ k) v) in
       let near : (z : Float) → T (fits binary32 z) → Picked m (2 ^ k) (in-units r) (in-units z) = λ z f. subst (λ (x : ℕ). Picked m (2 ^ k) x (in-units z)) e (both z f) in
       record {
+        is-f32 = ofBits-fits binary32 (k * 8388608 + y);
         above-zero = positive-of-value r (y * 2 ^ k) (2 ^ 149) v (mul-pos (lt-of-lt-of-le (lit< tt) lo) (pow-pos k));
         over = λ z f h. subst (λ (x : ℕ). 4 * x < (in-units r + in-units z) * (in-units r + in-units z)) (sym squared) (near z f .0 h);
         under = λ z f h. subst (λ (x : ℕ). (in-units r + in-units z) * (in-units r + in-units z) < 4 * x) (sym squared) (near z f .1 h);

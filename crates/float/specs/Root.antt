@@ -21,7 +21,7 @@ in-units nan = 0
 in-units (inf s) = 0
 in-units (fin s m e) = m * up e * 2 ^ 149 / down e
 
--- √n units, cut to whole units and then rounded to the nearest `f32`. For the n that `root` has, the cut does not show: `nearest` of proofs/RootLaw.antt
+-- √n units, cut to whole units and then rounded to the nearest `f32`. Where n is an `f32`'s the cut does not show (`nearest` of proofs/RootLaw.antt)
 unfoldable pub rounded-root : ℕ → Float
 rounded-root n = round binary32 false (whole-root n) (2 ^ 149)
 
@@ -34,14 +34,15 @@ root (fin s zero e) = fin s zero e
 root (fin true (suc m) e) = nan
 root (fin false (suc m) e) = rounded-root (in-units (fin false (suc m) e) * 2 ^ 149)
 
--- r is the `f32` nearest to the root of u units. z above r is further from it where the root is below their midpoint, 4 * u * 2 ^ 149 < (r + z) ^ 2 in units, and so for z below r.
--- Both are strict, as no root lies halfway between two values.
+-- r is the `f32` nearest to the root of u units: for every other value z the root is on r's side of their midpoint. That the root is below the midpoint of r and z is 4 * (u * 2 ^ 149) < (r + z) ^ 2, all in units.
+-- Both orders are strict, as no root lies halfway between two values.
 pub record NearRoot (u : ℕ) (r : Float) : Type 0 where
+  pub is-f32 : T (fits binary32 r)
   pub above-zero : T (positive r)
   pub over : (z : Float) → T (fits binary32 z) → in-units r < in-units z → 4 * (u * 2 ^ 149) < (in-units r + in-units z) * (in-units r + in-units z)
   pub under : (z : Float) → T (fits binary32 z) → in-units z < in-units r → (in-units r + in-units z) * (in-units r + in-units z) < 4 * (u * 2 ^ 149)
 
--- r is x's root, with no word on how it is found
+-- r is x's root, said with no way to find it: `nearest` and `only` of proofs/RootLaw.antt show that this is `root`
 unfoldable pub IsRoot : Float → Float → Type 0
 IsRoot nan r = r ≡ nan
 IsRoot (inf true) r = r ≡ nan

@@ -35,7 +35,8 @@ fn whole_root(m: u64) -> u64
     s
 }
 
-// The root of m * 4 ^ k.
+// √(m * 4 ^ k) units of 2 ^ -149, rounded: the whole part of m's root, or one more where the root
+// is past the half.
 fn rounded_root(m: u64, k: u32) -> f32
     requires { ⌜ (2 ^ 46 ≤ m) × (m < 2 ^ 48) × (51 ≤ k) × (k < 250) ⌝ }
     ensures { λ r. ⌜ r ≡ Spec.rounded-root (m * 2 ^ (k + k)) ⌝ }
@@ -51,8 +52,8 @@ struct Scaled {
     k: u32,
 }
 
-// The digits of a value below the least normal one, as m * 4 ^ k with an m of 47 or 48 binary
-// digits, in the squares' units.
+// For a value below the least normal one: digits * 2 ^ 149 as m * 4 ^ k, with an m of 47 or 48
+// binary digits.
 fn scale_up(digits: u32) -> Scaled
     requires { ⌜ (0 < digits) × (digits < 2 ^ 23) ⌝ }
     ensures { λ r. ⌜ (r .m * 2 ^ (r .k + r .k) ≡ digits * 2 ^ 149) × (2 ^ 46 ≤ r .m) × (r .m < 2 ^ 48) × (51 ≤ r .k) × (r .k < 250) ⌝ }

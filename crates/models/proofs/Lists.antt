@@ -3,12 +3,12 @@ use Prim.Native.Nat.{ℕ, suc, _+_, _-_, _≤_, _<_, min}
 use mathlib.Core.Path.{_≡_, refl, sym, ap, _∙_, subst}
 use mathlib.Core.Bool.{Bool, true, false, not, cond}
 use mathlib.Core.List.{List, [], _∷_, _++_, append-assoc}
-use native.Mathlib.Nat.{min-eq-left, min-eq-right, le-of-lt, le-of-eq}
+use native.Mathlib.Nat.{min-eq-left, min-eq-right, min-le-left, le-of-lt, le-of-eq, lt-of-lt-of-le}
 use native.Mathlib.Numerals.{add-one}
 use native.Mathlib.Omega.{arith}
 use lib.Dec.{T, leb, leb→le, nleb→lt}
-use lib.ListN.{length, take, drop, getD, set, replicate, length-append, length-take, length-map}
-use lib.Seq.{set-append-seam, take-all, take-suc, drop-cons}
+use lib.ListN.{length, take, drop, getD, set, replicate, length-append, length-take, length-map, drop-of-length-le}
+use lib.Seq.{set-append-seam, take-all, take-suc, drop-cons, getD-take}
 use mir.Val.{Val}
 use denote.Laws.{Is}
 use denote.Struct.Laws as Laws
@@ -79,6 +79,19 @@ take-min n m l e = go (leb n m) (leb→le n m) (nleb→lt n m)
 
 pub drop-next : {A : Type 0} (l : List A) (i : ℕ) (d : A) → i < length l → drop i l ≡ getD l i d ∷ drop (i + 1) l
 drop-next l i d h = drop-cons l i d h ∙ ap (λ (k : ℕ). getD l i d ∷ drop k l) (sym (add-one i))
+
+-- what a list of m places and a count of n holds from i on
+module _ {A : Type 0} (n m : ℕ) (l : List A) (sized : length l ≡ m) where
+  held-length : length (take n l) ≡ min n m
+  held-length = length-take n l ∙ ap (min n) sized
+
+  pub held-next : (i : ℕ) (d : A) → i < min n m → drop i (take n l) ≡ getD l i d ∷ drop (i + 1) (take n l)
+  held-next i d h =
+      drop-next (take n l) i d (subst (λ (k : ℕ). i < k) (sym held-length) h)
+      ∙ ap (λ (x : A). x ∷ drop (i + 1) (take n l)) (getD-take n l i d (lt-of-lt-of-le h (min-le-left n m)))
+
+  pub held-end : (i : ℕ) → min n m ≤ i → drop i (take n l) ≡ []
+  held-end i h = drop-of-length-le (take n l) (subst (λ (k : ℕ). k ≤ i) (sym held-length) h)
 
 -- the elements that pass a test, with the next one
 module _ {A : Type 0} (test : A → Bool) where

@@ -1,14 +1,13 @@
 -- A float's sign dropped, by the test against 0. Assumes nothing.
 use Prim.Native.Nat.{ℕ, zero, suc, _+_, _*_, _<_}
 use mathlib.Core.Path.{_≡_, refl, sym, ap, _∙_}
-use mathlib.Core.Bool.{Bool, true, false, not, _||_, _&&_, true≢false, Bool·beq}
+use mathlib.Core.Bool.{Bool, true, false, _||_, true≢false}
 use native.Mathlib.Nat.{zero-add, zero-mul, mul-pos}
 use native.Mathlib.Omega.{arith}
-use lib.Dec.{ltb, eqb}
 use lib.IntN.{ℤ, pos}
 use lib.Ieee.{Float, nan, inf, fin, lt, le, eq, neg, up, down, below, level}
-use lib.Ieee.Fits.{up-pos, down-pos}
-use borrow.Author.Tests.{lt-ltb, le-ltb, eq-eqb, ne-eqb}
+use lib.Ieee.Fits.{up-pos}
+use borrow.Author.Tests.{lt-ltb, le-ltb}
 use Rattle.models.specs.Matching.{magnitude}
 
 -- 0 has either sign

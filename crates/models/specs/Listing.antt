@@ -1,6 +1,6 @@
 -- Lists of a fixed length with a count, and the answer that is such a list or a refusal. Definitions only.
-use Prim.Native.Nat.{ℕ, _-_}
-use mathlib.Core.List.{List, [], _++_}
+use Prim.Native.Nat.{_-_}
+use mathlib.Core.List.{List, _++_}
 use lib.ListN.{length, replicate, take}
 use Rattle.motor_core.specs.Name.{name-of}
 use Rattle.motor_core.specs.declared.name.Name.{Name}

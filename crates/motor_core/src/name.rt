@@ -16,15 +16,23 @@ pub fn spells(name: Name, bytes: &[u8]) -> bool
     ensures { λ r. ⌜ r ≡ same (spelling name) (now (bytes .entry)) ⌝ }
 {
     let held = name.bytes;
-    begins(&held, name.len as usize, bytes)
+    same_bytes(first(&held, name.len as usize), bytes)
 }
 
-// Whether the first `len` bytes are these.
-fn begins(held: &[u8], len: usize, bytes: &[u8]) -> bool
-    ensures { λ r. ⌜ r ≡ same (take len (now (held .entry))) (now (bytes .entry)) ⌝ }
+// Whether the two names spell the same.
+pub fn same_name(a: Name, b: Name) -> bool
+    ensures { λ r. ⌜ r ≡ same (spelling a) (spelling b) ⌝ }
 {
-    if len < held.len() {
-        return same_bytes(&held[0..len], bytes);
+    let held = b.bytes;
+    spells(a, first(&held, b.len as usize))
+}
+
+// The first `len` bytes, or all where there are no more.
+fn first(bytes: &[u8], len: usize) -> &[u8]
+    ensures { λ r. ⌜ now r ≡ take len (now (bytes .entry)) ⌝ }
+{
+    if len < bytes.len() {
+        return &bytes[0..len];
     }
-    same_bytes(held, bytes)
+    bytes
 }

@@ -1,5 +1,5 @@
 -- `models::display::display_model_name` meets its contract. Assumes nothing.
-use mathlib.Core.Path.{_≡_, refl, sym, ap, _∙_}
+use mathlib.Core.Path.{sym, ap, _∙_}
 use mathlib.Core.Bool.{Bool, cond}
 use Rattle.text.specs.Ascii.{ascii}
 use Rattle.motor_core.specs.Name.{name-of}

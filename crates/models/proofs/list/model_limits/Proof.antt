@@ -1,21 +1,18 @@
 -- `models::list::model_limits` meets its contract. The invariant: the models from i on say it. Assumes nothing.
-use Prim.Native.Nat.{ℕ, _+_, _-_, _≤_, _<_, min}
+use Prim.Native.Nat.{ℕ, _+_, _-_, _≤_, _<_}
 use mathlib.Core.Path.{_≡_, refl, sym, ap, _∙_, subst}
 use mathlib.Core.Bool.{Bool, true, false, cond}
-use mathlib.Core.List.{List, [], _∷_}
-use native.Mathlib.Nat.{min-le-left, lt-of-lt-of-le, le-trans, le-of-eq}
+use mathlib.Core.List.{List}
 use native.Mathlib.Omega.{arith}
 use borrow.Author.Needs.{needs}
-use lib.ListN.{length, take, drop, getD, drop-of-length-le}
-use lib.Seq.{getD-take}
+use lib.ListN.{drop, getD}
 use Rattle.text.specs.Text.{same}
 use Rattle.motor_core.specs.Name.{spelling}
 use Rattle.models.specs.Listing.{models-of}
 use Rattle.models.specs.Models.{limits-by-name}
-use Rattle.models.specs.declared.list.ModelList.{ModelList}
 use Rattle.models.specs.declared.list.MotorModelSpec.{MotorModelSpec}
 use Rattle.models.specs.declared.list.ModelLimits.the-variants.{Limits}
-use Rattle.models.proofs.Lists.{sixteen-models, models-length, drop-next}
+use Rattle.models.proofs.Lists.{sixteen-models, held-next, held-end}
 use Rattle.models.proofs.list.model_limits.Statement.{statement}
 use Rattle.models.proofs.list.model_limits.Tie as tie
 
@@ -27,27 +24,20 @@ abbrev μ-loop : tie.MeasureT-loop
 μ-loop name list count i₀ i = count - i
 
 -- the model at i, by whether it has the name
-module _ (list : ModelList) (name : List ℕ) (i : ℕ) (d : MotorModelSpec) (short : i < list .count) (within : i < length (models-of list)) where
-  at-model : (b : Bool) → same (spelling (getD (list .models) i d .model)) name ≡ b
-      → limits-by-name (drop i (models-of list)) name ≡ cond b (Limits (getD (list .models) i d .maxima)) (limits-by-name (drop (i + 1) (models-of list)) name)
-  unfolding limits-by-name
-  at-model b h =
-      ap (λ (l : List MotorModelSpec). limits-by-name l name) (drop-next (models-of list) i d within)
-      ∙ ap (λ (x : MotorModelSpec). limits-by-name (x ∷ drop (i + 1) (models-of list)) name) (getD-take (list .count) (list .models) i d short)
-      ∙ ap (λ (t : Bool). cond t (Limits (getD (list .models) i d .maxima)) (limits-by-name (drop (i + 1) (models-of list)) name)) h
-
 at-i : (c : tie.In-loop Inv-loop μ-loop) (d : MotorModelSpec) (b : Bool)
     → let a = c .before .before .before .before .args in
     let x = getD (a .t1 .models) (c .before .loop .i) d in
     same (spelling (x .model)) (a .name .now) ≡ b
     → limits-by-name (drop (c .before .loop .i) (models-of (a .t1))) (a .name .now)
     ≡ cond b (Limits (x .maxima)) (limits-by-name (drop (c .before .loop .i + 1) (models-of (a .t1))) (a .name .now))
-at-i c d b =
+unfolding limits-by-name
+at-i c d b h =
     let a = c .before .before .before .before in
-    let p = c .before .before .places .ensures in
-    at-model (a .args .t1) (a .args .name .now) (c .before .loop .i) d (lt-of-lt-of-le (c .loop-test .taken) (le-trans (le-of-eq p) (min-le-left (a .args .t1 .count) 16)))
-    (subst (λ (k : ℕ). c .before .loop .i < k) (p ∙ sym (models-length (a .args .t1) (sixteen-models (a .args .t1) _ (a .good .0)))) (c .loop-test .taken))
-    b
+    let x = getD (a .args .t1 .models) (c .before .loop .i) d in
+    ap (λ (l : List MotorModelSpec). limits-by-name l (a .args .name .now))
+    (held-next (a .args .t1 .count) 16 (a .args .t1 .models) (sixteen-models (a .args .t1) _ (a .good .0)) (c .before .loop .i) d
+    (subst (λ (k : ℕ). c .before .loop .i < k) (c .before .before .places .ensures) (c .loop-test .taken)))
+    ∙ ap (λ (t : Bool). cond t (Limits (x .maxima)) (limits-by-name (drop (c .before .loop .i + 1) (models-of (a .args .t1))) (a .args .name .now))) h
 
 places-requires : tie.Need-places-requires Inv-loop μ-loop
 places-requires c κs = search needs
@@ -85,9 +75,9 @@ unfolding limits-by-name
 returns-2 c =
     let a = c .before .before .before .before in
     let l = c .before .loop in
-    let p = c .before .before .places .ensures in
     sym (l .inv .1 ∙ ap (λ (specs : List MotorModelSpec). limits-by-name specs (a .args .name .now))
-    (drop-of-length-le (models-of (a .args .t1)) (le-trans (le-of-eq (models-length (a .args .t1) (sixteen-models (a .args .t1) _ (a .good .0)) ∙ sym p)) (c .loop-test .left))))
+    (held-end (a .args .t1 .count) 16 (a .args .t1 .models) (sixteen-models (a .args .t1) _ (a .good .0)) (l .i)
+    (subst (λ (k : ℕ). k ≤ l .i) (c .before .before .places .ensures) (c .loop-test .left))))
 
 pub model-limits-spec : {M : Type 1} → statement M
 model-limits-spec =

@@ -1,8 +1,7 @@
 -- `models::matching::accepts_query` meets its contract. Assumes nothing.
-use mathlib.Core.Path.{_≡_, sym, ap, _∙_}
-use mathlib.Core.Bool.{Bool, _&&_}
+use mathlib.Core.Path.{_≡_, _∙_}
+use mathlib.Core.Bool.{_&&_}
 use mathlib.Core.Logic.{⊎-elim}
-use lib.Ieee.{Float}
 use Rattle.models.specs.Matching as Spec
 use Rattle.models.proofs.Tests.{both, neither}
 use borrow.Author.Needs.{needs}

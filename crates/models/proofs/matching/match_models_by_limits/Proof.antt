@@ -1,10 +1,9 @@
 -- `models::matching::match_models_by_limits` meets its contract. Assumes nothing.
-use mathlib.Core.Path.{_≡_, sym, ap, _∙_}
-use mathlib.Core.Bool.{Bool, true, false, not, cond}
+use mathlib.Core.Path.{sym, ap, _∙_}
+use mathlib.Core.Bool.{Bool, cond}
 use borrow.Author.Tests.{not-true, not-false}
 use Rattle.models.specs.Listing.{models-of}
 use Rattle.models.specs.Matching as Spec
-use Rattle.models.specs.declared.matching.Listing.{Listing}
 use Rattle.models.specs.declared.matching.Outcome.the-variants.{Listed}
 use borrow.Author.Needs.{needs}
 use Rattle.models.proofs.matching.match_models_by_limits.Statement.{statement}

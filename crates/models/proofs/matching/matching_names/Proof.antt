@@ -8,9 +8,8 @@ use native.Mathlib.Nat.{le-antisymm}
 use native.Mathlib.Omega.{arith}
 use borrow.Author.Needs.{needs}
 use lib.Ieee.{Float}
-use lib.ListN.{length, take, getD, set}
+use lib.ListN.{length, take, getD}
 use Rattle.motor_core.specs.declared.name.Name.{Name}
-use Rattle.models.specs.Listing.{names-of}
 use Rattle.models.specs.Matching as Spec
 use Rattle.models.specs.declared.list.Maxima.{Maxima}
 use Rattle.models.specs.declared.list.MotorModelSpec.{MotorModelSpec}

@@ -1,7 +1,4 @@
 -- `models::matching::refused` meets its contract. Assumes nothing.
-use mathlib.Core.Path.{ap}
-use Rattle.models.specs.declared.list.Names.{Names}
-use Rattle.models.specs.declared.matching.Listing.{Listing}
 use Rattle.models.specs.declared.matching.Outcome.the-variants.{Refused}
 use borrow.Author.Needs.{needs}
 use Rattle.models.proofs.matching.refused.Statement.{statement}
