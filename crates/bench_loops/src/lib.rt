@@ -1,7 +1,5 @@
 // Loops that a benchmark calls from Rust: each does one piece of work for every element of a lent
 // slice and returns a checksum of the results.
-pub mod queries;
-
 ghost use mathlib.Core.Path.{_≡_};
 ghost use Prim.Native.Nat.{_+_, _*_, _≤_};
 ghost use lib.ListN.{length};

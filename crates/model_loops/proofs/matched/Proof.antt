@@ -1,9 +1,9 @@
--- `bench_loops::queries::matched` meets its contract. Assumes nothing.
+-- `model_loops::matched` meets its contract. Assumes nothing.
 use borrow.Author.Needs.{needs}
 use Rattle.models.specs.Matching.{match-models}
-use Rattle.bench_loops.proofs.Alike.{alike}
-use Rattle.bench_loops.proofs.queries.matched.Statement.{statement}
-use Rattle.bench_loops.proofs.queries.matched.Tie as tie
+use Rattle.model_loops.proofs.Alike.{alike}
+use Rattle.model_loops.proofs.matched.Statement.{statement}
+use Rattle.model_loops.proofs.matched.Tie as tie
 
 damiao-models-requires : tie.Need-damiao-models-requires
 damiao-models-requires c κs = search needs

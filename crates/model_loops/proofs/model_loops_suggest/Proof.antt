@@ -1,15 +1,15 @@
--- `bench_loops::queries::bench_loops_match` meets its contract. Assumes nothing.
+-- `model_loops::model_loops_suggest` meets its contract. Assumes nothing.
 use Prim.Native.Nat.{_-_, _*_, _≤_}
 use mathlib.Core.Path.{_≡_, refl, ap, _∙_}
 use borrow.Author.Needs.{needs}
 use Rattle.bench_loops.specs.Loops.{total, _⊞_}
-use Rattle.bench_loops.specs.Queries.{names-total, matched}
+use Rattle.model_loops.specs.Queries.{names-total, suggested}
 use Rattle.bench_loops.proofs.Totals.{one-more, reached}
-use Rattle.bench_loops.proofs.queries.bench_loops_match.Statement.{statement}
-use Rattle.bench_loops.proofs.queries.bench_loops_match.Tie as tie
+use Rattle.model_loops.proofs.model_loops_suggest.Statement.{statement}
+use Rattle.model_loops.proofs.model_loops_suggest.Tie as tie
 
 abbrev Inv-loop : tie.InvT-loop
-Inv-loop xs sum₀ count k₀ sum k = (k ≤ count) × (sum ≡ total _⊞_ 0 (λ j. names-total (matched xs (j * 4))) k)
+Inv-loop xs sum₀ count k₀ sum k = (k ≤ count) × (sum ≡ total _⊞_ 0 (λ j. names-total (suggested xs (j * 3))) k)
 
 abbrev μ-loop : tie.MeasureT-loop
 μ-loop xs sum₀ count k₀ sum k = count - k
@@ -18,11 +18,11 @@ loop-holds : tie.Need-loop-holds Inv-loop μ-loop
 unfolding total
 loop-holds c = (search needs, refl)
 
-mul-matched : tie.Need-mul-matched Inv-loop μ-loop
-mul-matched c = search needs
+mul-suggested : tie.Need-mul-suggested Inv-loop μ-loop
+mul-suggested c = search needs
 
-matched-requires : tie.Need-matched-requires Inv-loop μ-loop
-matched-requires c κs = search needs
+suggested-requires : tie.Need-suggested-requires Inv-loop μ-loop
+suggested-requires c κs = search needs
 
 names-total-requires : tie.Need-names-total-requires Inv-loop μ-loop
 names-total-requires c κs = search needs
@@ -40,20 +40,20 @@ loop-again : tie.Need-loop-again Inv-loop μ-loop
 loop-again c =
     let totalled = c .before in
     let listed = totalled .before in
-    (search needs, c .wrapping-add-u64 .ensures ∙ one-more _⊞_ 0 _ _ _ _ (listed .before .before .loop .inv .1) (totalled .names-total .ensures ∙ ap names-total (listed .matched .ensures)))
+    (search needs, c .wrapping-add-u64 .ensures ∙ one-more _⊞_ 0 _ _ _ _ (listed .before .before .loop .inv .1) (totalled .names-total .ensures ∙ ap names-total (listed .suggested .ensures)))
 
 returns : tie.Need-returns Inv-loop μ-loop
 returns c = reached _⊞_ 0 _ _ _ _ (c .before .loop .inv .0) (c .loop-test .left) (c .before .loop .inv .1)
 
-pub bench-loops-match-spec : {M : Type 1} → statement M
-bench-loops-match-spec =
+pub model-loops-suggest-spec : {M : Type 1} → statement M
+model-loops-suggest-spec =
     tie.close
     (tie.spec
     Inv-loop
     μ-loop
     loop-holds
-    mul-matched
-    matched-requires
+    mul-suggested
+    suggested-requires
     names-total-requires
     wrapping-add-u64-requires
     add-k

@@ -1,15 +1,15 @@
--- `bench_loops::queries::names_total` meets its contract. Assumes nothing.
+-- `model_loops::names_total` meets its contract. Assumes nothing.
 use Prim.Native.Nat.{ℕ, _-_, _≤_}
 use mathlib.Core.Path.{_≡_, refl, ap, _∙_}
 use mathlib.Core.List.{[]}
 use native.Mathlib.Omega.{arith}
 use borrow.Author.Needs.{needs}
 use lib.ListN.{getD}
 use Rattle.bench_loops.specs.Loops.{total, _⊞_}
-use Rattle.bench_loops.specs.Queries.{code, twice-and}
+use Rattle.model_loops.specs.Queries.{code, twice-and}
 use Rattle.bench_loops.proofs.Totals.{one-more, reached}
-use Rattle.bench_loops.proofs.queries.names_total.Statement.{statement}
-use Rattle.bench_loops.proofs.queries.names_total.Tie as tie
+use Rattle.model_loops.proofs.names_total.Statement.{statement}
+use Rattle.model_loops.proofs.names_total.Tie as tie
 
 abbrev Inv-loop : tie.InvT-loop
 Inv-loop held sum₀ count i₀ sum i =

@@ -1,8 +1,9 @@
-// The loops over queries of the model list. The checksum has every name that is listed, in order.
+// Loops that a benchmark calls from Rust, over queries of the model list. The checksum has every name
+// that is listed, in order.
 ghost use mathlib.Core.Path.{_≡_};
 ghost use Prim.Native.Nat.{_+_, _≤_, _<_};
 ghost use lib.ListN.{length};
-ghost use Rattle.bench_loops.specs.Queries as Spec;
+ghost use Rattle.model_loops.specs.Queries as Spec;
 use models::list::Maxima;
 use models::list::Names;
 use models::list::damiao_models;
@@ -75,7 +76,7 @@ fn suggested(xs: &[f32], at: usize) -> Names
 
 // Matches every whole query of four floats, the fourth its tolerance.
 #[no_mangle]
-pub extern "C" fn bench_loops_match(xs: &[f32]) -> u64
+pub extern "C" fn model_loops_match(xs: &[f32]) -> u64
     ensures { λ r. ⌜ r ≡ Spec.match-total (now (xs .entry)) ⌝ }
 {
     let mut sum: u64 = 0;
@@ -88,7 +89,7 @@ pub extern "C" fn bench_loops_match(xs: &[f32]) -> u64
 
 // Suggests three models for every whole query of three floats.
 #[no_mangle]
-pub extern "C" fn bench_loops_suggest(xs: &[f32]) -> u64
+pub extern "C" fn model_loops_suggest(xs: &[f32]) -> u64
     ensures { λ r. ⌜ r ≡ Spec.suggest-total (now (xs .entry)) ⌝ }
 {
     let mut sum: u64 = 0;

@@ -1,9 +1,9 @@
--- `bench_loops::queries::suggested` meets its contract. Assumes nothing.
+-- `model_loops::suggested` meets its contract. Assumes nothing.
 use borrow.Author.Needs.{needs}
 use Rattle.models.specs.Suggestion.{suggest-models}
-use Rattle.bench_loops.proofs.Alike.{alike}
-use Rattle.bench_loops.proofs.queries.suggested.Statement.{statement}
-use Rattle.bench_loops.proofs.queries.suggested.Tie as tie
+use Rattle.model_loops.proofs.Alike.{alike}
+use Rattle.model_loops.proofs.suggested.Statement.{statement}
+use Rattle.model_loops.proofs.suggested.Tie as tie
 
 damiao-models-requires : tie.Need-damiao-models-requires
 damiao-models-requires c κs = search needs
