@@ -8,6 +8,7 @@ use Rattle.models.specs.Matching.{match-models}
 use Rattle.models.specs.Models.{damiao-models, list-of}
 use Rattle.models.specs.Suggestion.{suggest-models}
 use Rattle.models.specs.declared.list.Maxima.{Maxima}
+use Rattle.models.specs.declared.list.ModelList.{ModelList}
 use Rattle.models.specs.declared.list.Names.{Names}
 use Rattle.bench_loops.specs.Loops.{total, _⊞_}
 
@@ -33,17 +34,17 @@ abbrev pub names-total : Names → ℕ
 names-total names = total twice-and 0 (λ i. code (getD (names .names) i (record { bytes = []; len = 0 }))) (min (names .count) 16)
 
 -- the query from `at` on, with the tolerance after it
-abbrev pub matched : List Float → ℕ → Names
-matched xs at = match-models (list-of damiao-models) (query xs at) (getD xs (at + 3) nan) .names
+abbrev pub matched : ModelList → List Float → ℕ → Names
+matched list xs at = match-models list (query xs at) (getD xs (at + 3) nan) .names
 
 -- the three models nearest to the query from `at` on
-abbrev pub suggested : List Float → ℕ → Names
-suggested xs at = suggest-models (list-of damiao-models) (query xs at) 3 .names
+abbrev pub suggested : ModelList → List Float → ℕ → Names
+suggested list xs at = suggest-models list (query xs at) 3 .names
 
 -- every whole query of four floats
 abbrev pub match-total : List Float → ℕ
-match-total xs = total _⊞_ 0 (λ k. names-total (matched xs (k * 4))) (length xs / 4)
+match-total xs = total _⊞_ 0 (λ k. names-total (matched (list-of damiao-models) xs (k * 4))) (length xs / 4)
 
 -- every whole query of three floats
 abbrev pub suggest-total : List Float → ℕ
-suggest-total xs = total _⊞_ 0 (λ k. names-total (suggested xs (k * 3))) (length xs / 3)
+suggest-total xs = total _⊞_ 0 (λ k. names-total (suggested (list-of damiao-models) xs (k * 3))) (length xs / 3)

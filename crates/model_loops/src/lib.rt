@@ -5,6 +5,7 @@ ghost use Prim.Native.Nat.{_+_, _≤_, _<_};
 ghost use lib.ListN.{length};
 ghost use Rattle.model_loops.specs.Queries as Spec;
 use models::list::Maxima;
+use models::list::ModelList;
 use models::list::Names;
 use models::list::damiao_models;
 use models::list::places;
@@ -57,20 +58,20 @@ fn query_at(xs: &[f32], at: usize) -> Maxima
 }
 
 // The names that match the query from `at` on, by the tolerance after it.
-fn matched(xs: &[f32], at: usize) -> Names
+fn matched(list: ModelList, xs: &[f32], at: usize) -> Names
     requires { ⌜ at + 4 ≤ length (now xs) ⌝ }
-    ensures { λ r. ⌜ r ≡ Spec.matched (now (xs .entry)) at ⌝ }
+    ensures { λ r. ⌜ r ≡ Spec.matched list (now (xs .entry)) at ⌝ }
 {
-    let listing = match_models_by_limits(damiao_models(), query_at(xs, at), xs[at + 3]);
+    let listing = match_models_by_limits(list, query_at(xs, at), xs[at + 3]);
     listing.names
 }
 
 // The three names that come nearest to the query from `at` on.
-fn suggested(xs: &[f32], at: usize) -> Names
+fn suggested(list: ModelList, xs: &[f32], at: usize) -> Names
     requires { ⌜ at + 3 ≤ length (now xs) ⌝ }
-    ensures { λ r. ⌜ r ≡ Spec.suggested (now (xs .entry)) at ⌝ }
+    ensures { λ r. ⌜ r ≡ Spec.suggested list (now (xs .entry)) at ⌝ }
 {
-    let listing = suggest_models_by_limits(damiao_models(), query_at(xs, at), 3);
+    let listing = suggest_models_by_limits(list, query_at(xs, at), 3);
     listing.names
 }
 
@@ -79,10 +80,11 @@ fn suggested(xs: &[f32], at: usize) -> Names
 pub extern "C" fn model_loops_match(xs: &[f32]) -> u64
     ensures { λ r. ⌜ r ≡ Spec.match-total (now (xs .entry)) ⌝ }
 {
+    let list = damiao_models();
     let mut sum: u64 = 0;
     let count = xs.len() / 4;
     for k in 0..count {
-        sum = std::num::wrapping_add_u64(sum, names_total(matched(xs, k * 4)));
+        sum = std::num::wrapping_add_u64(sum, names_total(matched(list, xs, k * 4)));
     }
     sum
 }
@@ -92,10 +94,11 @@ pub extern "C" fn model_loops_match(xs: &[f32]) -> u64
 pub extern "C" fn model_loops_suggest(xs: &[f32]) -> u64
     ensures { λ r. ⌜ r ≡ Spec.suggest-total (now (xs .entry)) ⌝ }
 {
+    let list = damiao_models();
     let mut sum: u64 = 0;
     let count = xs.len() / 3;
     for k in 0..count {
-        sum = std::num::wrapping_add_u64(sum, names_total(suggested(xs, k * 3)));
+        sum = std::num::wrapping_add_u64(sum, names_total(suggested(list, xs, k * 3)));
     }
     sum
 }

@@ -1,12 +1,9 @@
 -- `model_loops::suggested` meets its contract. Assumes nothing.
 use borrow.Author.Needs.{needs}
 use Rattle.models.specs.Suggestion.{suggest-models}
-use Rattle.model_loops.proofs.Alike.{alike}
+use Rattle.model_loops.proofs.Alike.{same-query}
 use Rattle.model_loops.proofs.suggested.Statement.{statement}
 use Rattle.model_loops.proofs.suggested.Tie as tie
-
-damiao-models-requires : tie.Need-damiao-models-requires
-damiao-models-requires c κs = search needs
 
 query-at-requires : tie.Need-query-at-requires
 query-at-requires c κs = search needs
@@ -18,13 +15,12 @@ returns : tie.Need-returns
 returns c =
     let suggesting = c .before in
     let asked = suggesting .before in
-    alike suggest-models _ _ _ _ _ _ (asked .before .damiao-models .ensures) (asked .query-at .ensures) (suggesting .suggest-models-by-limits .ensures)
+    same-query suggest-models _ _ _ _ _ (asked .query-at .ensures) (suggesting .suggest-models-by-limits .ensures)
 
 pub suggested-spec : {M : Type 1} → statement M
 suggested-spec =
     tie.close
     (tie.spec
-    damiao-models-requires
     query-at-requires
     suggest-models-by-limits-requires
     returns)
