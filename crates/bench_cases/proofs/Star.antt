@@ -1,8 +1,10 @@
 -- The marked bench cases hold: the checker computes each definition. Assumes nothing.
 use mathlib.Core.Path.{refl}
-use lib.Ieee.{div, ofInt, neg, le, sub, mul, add, toUnsigned}
+use lib.Ieee.{round, div, ofInt, neg, le, sub, mul, add, toUnsigned}
 use Rattle.float.specs.Float.{clip}
 use Rattle.motor_core.specs.Model.{limits-of, limit-accepted}
+use Rattle.matching.specs.Matching.{queryable, query-accepted, magnitude, within, matches, keep, matching-names, answer}
+use Rattle.models.specs.Models.{damiao-models}
 use Rattle.registers.specs.Registers.{registers, elem, data-type-of}
 use Rattle.registers.specs.Value.{value-of}
 use Rattle.frame.specs.Codes.{float-to-uint, uint-to-float}
@@ -15,7 +17,7 @@ use Rattle.received.specs.Status.{status-name}
 use Rattle.bench_cases.specs.Star.{Star}
 
 pub star : Star
-unfolding div ofInt neg le sub mul add toUnsigned clip limits-of limit-accepted registers elem data-type-of value-of float-to-uint uint-to-float packed-onto little-endian bytes mit-cmd mit-data frame-for force-pos-data scaled register-read-data addressed class feedback-of decoded received register-value status-name
+unfolding round div ofInt neg le sub mul add toUnsigned clip limits-of limit-accepted registers elem data-type-of value-of float-to-uint uint-to-float packed-onto little-endian bytes mit-cmd mit-data frame-for force-pos-data scaled register-read-data addressed class feedback-of decoded received register-value status-name queryable query-accepted magnitude within matches keep matching-names answer damiao-models
 star = record {
   mit-all-zero = refl;
   mit-all-at-maximum = refl;
@@ -27,4 +29,6 @@ star = record {
   d3-unknown = refl;
   read-ten = refl;
   force-position = refl;
+  match-exact = refl;
+  match-nan = refl;
 }

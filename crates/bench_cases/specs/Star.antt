@@ -2,8 +2,12 @@
 use Prim.Native.Nat.{ℕ}
 use mathlib.Core.Path.{_≡_}
 use mathlib.Core.List.{List, [], _∷_}
-use lib.Ieee.{Float, binary32, neg, div}
+use lib.Ieee.{Float, nan, binary32, neg, div}
 use Rattle.motor_core.specs.Model.{from-maxima}
+use Rattle.motor_core.specs.Name.{name-of}
+use Rattle.matching.specs.Matching.{listed, match-models}
+use Rattle.models.specs.Models.{damiao-models, list-of}
+use Rattle.models.specs.declared.list.Maxima.{Maxima}
 use Rattle.registers.specs.declared.RegisterValue.the-variants.{UInt32}
 use Rattle.float.specs.Arithmetic.{float}
 use Rattle.setpoint.specs.Setpoint.{mit-cmd, force-pos-cmd}
@@ -40,6 +44,10 @@ at-minimum = frame 0x11 0x00 0x00 0x00 0x00 0x00 0x1E 0x28
 abbrev pub minimum : SensorFeedback
 minimum = record { «can_id» = 1; «status_code» = 1; pos = neg p; vel = neg v; torq = neg t; «t_mos» = float 30; «t_rotor» = float 40 }
 
+-- the query 12.5, 45, 10
+abbrev pub query : Maxima
+query = record { «p_max» = p; «v_max» = float 45; «t_max» = t }
+
 pub record Star : Type 0 where
   pub mit-all-zero : mit-cmd 1 p v t zero zero zero zero zero ≡ Frame 1 0x7FFF_7FF0_0000_07FF
   pub mit-all-at-maximum : mit-cmd 1 p v t p v (float 500) (float 5) t ≡ Frame 1 0xFFFF_FFFF_FFFF_FFFF
@@ -51,3 +59,5 @@ pub record Star : Type 0 where
   pub d3-unknown : class-of (frame 0x11 0x0F 0x33 0x25 0x01 0x00 0x00 0x00) ≡ Class.Feedback
   pub read-ten : register-read-cmd 1 10 ≡ Frame 0x7FF 0x0100_330A_0000_0000
   pub force-position : force-pos-cmd 1 0 (float 100) (float 1) ≡ Frame 0x301 0x0000_0000_1027_1027
+  pub match-exact : match-models (list-of damiao-models) query zero ≡ listed (name-of "G6215" ∷ name-of "H6220" ∷ [])
+  pub match-nan : match-models (list-of damiao-models) query nan ≡ listed []

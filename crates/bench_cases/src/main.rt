@@ -6,9 +6,9 @@ use models::list::Maxima;
 use models::list::Names;
 use models::list::damiao_models;
 use models::list::places;
-use models::suggestion::suggest_models_by_limits;
 use motor_core::name::Name;
 use received::feedback::Decoded;
+use suggestion::suggest_models_by_limits;
 
 fn text(words: &[u8]) {
     io::write_all(STDOUT_FILENO, words);

@@ -2,17 +2,17 @@
 use crate::commands::put_refused;
 use crate::fields::real;
 use crate::reports::put_name;
+use matching::Listing;
+use matching::Outcome;
+use matching::match_models_by_limits;
 use models::list::Maxima;
 use models::list::Names;
 use models::list::damiao_models;
 use models::list::places;
-use models::matching::Listing;
-use models::matching::Outcome;
-use models::matching::match_models_by_limits;
-use models::suggestion::suggest_models_by_limits;
 use motor_core::name::Name;
 use script::Call;
 use script::calls;
+use suggestion::suggest_models_by_limits;
 use text::put;
 
 pub(crate) fn answer(call: Call, output: &mut [u8], to: usize) -> usize {

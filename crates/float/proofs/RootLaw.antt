@@ -6,14 +6,14 @@ use native.Mathlib.Omega.{arith}
 use mathlib.Core.Bool.{Bool, true, false, not}
 use lib.Dec.{T, leb, leb→le, nleb→lt}
 use lib.Pow.{pow-add, pow-pos, pow-mono}
-use lib.Ieee.{Float, nan, inf, fin, binary32, down, size, fits}
+use lib.Ieee.{Float, nan, inf, fin, binary32, size, fits}
 use lib.Ieee.Digits.{size-lt, size-le, size-reaches}
 use lib.Ieee.Exact.{HasValue}
 use lib.Ieee.Positive.{positive}
 use Rattle.float.specs.Root.{in-units, whole-root, rounded-root, root, NearRoot, IsRoot}
 use Rattle.float.proofs.WholeRoot.{root-sq-le, lt-next-sq}
 use Rattle.float.proofs.RootRound.{same-value, rounded-down, rounded-up}
-use Rattle.float.proofs.RootNear.{units-of, in-units-is, near-down, near-up}
+use Rattle.float.proofs.RootNear.{units-of, in-units-is, in-units-value, near-down, near-up}
 
 -- n as m * 4 ^ k, with an m of 47 or 48 digits
 record Scaled (n : ℕ) : Type 0 where
@@ -101,7 +101,7 @@ value-in-units : (r : Float) → T (fits binary32 r) → T (positive r) → HasV
 value-in-units nan f p = absurd p
 value-in-units (inf s) f p = absurd p
 value-in-units (fin true m e) f p = absurd p
-value-in-units (fin false m e) f p = let w = units-of false m e f in (refl, w .is ∙ ap (λ (x : ℕ). x * down e) (sym (in-units-is false m e w)))
+value-in-units (fin false m e) f p = in-units-value false m e f
 
 one-near : (u : ℕ) (r t : Float) → NearRoot u r → NearRoot u t → r ≡ t
 one-near u r t h k =

@@ -1,5 +1,5 @@
 -- `NearRoot`, of the same two patterns: what the root of m * 4 ^ k rounds to is nearer to it than any other `f32` is. Assumes nothing.
-use mathlib.Core.Path.{_≡_, sym, ap, _∙_, subst}
+use mathlib.Core.Path.{_≡_, refl, sym, ap, _∙_, subst}
 use mathlib.Core.Logic.{_⊎_, inl, inr}
 use Prim.Native.Nat.{ℕ, zero, suc, _+_, _-_, _*_, _/_, _%_, _^_, _≤_, _<_, zero-le}
 use native.Mathlib.Nat.{le-refl, le-trans, le-of-eq, le-of-lt, le-of-suc-le-suc, lt-of-le-of-lt, lt-of-lt-of-le, lt-of-not-le, not-le-of-lt, lt-irrefl, le-add-right, add-comm, add-le-add, add-lt-add-of-le-of-lt, sub-add-cancel, mul-one, one-mul, mul-assoc, mul-right-comm, mul-pos, mul-le-mul-left, mul-le-mul-right, mul-lt-mul-of-pos-right, lt-of-mul-lt-mul-right, mul-div-cancel}
@@ -12,6 +12,7 @@ use lib.Pow.{pow-add, pow-pos, pow-mono, pow-lt}
 use lib.Ieee.{Float, nan, inf, fin, binary32, up, down, fits, ofBits}
 use lib.Ieee.Fits.{and-l, and-r, down-pos}
 use lib.Ieee.Bits.{ofBits-fits}
+use lib.Ieee.Exact.{HasValue}
 use lib.Ieee.Positive.{positive-of-value}
 use Rattle.float.specs.Root.{in-units, NearRoot}
 use Rattle.float.proofs.WholeRoot.{sq-le}
@@ -59,6 +60,9 @@ units-of s (suc m) e t =
 
 pub in-units-is : (s : Bool) (m : ℕ) (e : ℤ) (w : Units m e) → in-units (fin s m e) ≡ m * 2 ^ (w .power)
 in-units-is s m e w = ap (λ (x : ℕ). x / down e) (w .is) ∙ mul-div-cancel (m * 2 ^ (w .power)) (down-pos e)
+
+pub in-units-value : (s : Bool) (m : ℕ) (e : ℤ) → T (fits binary32 (fin s m e)) → HasValue (fin s m e) s (in-units (fin s m e)) (2 ^ 149)
+in-units-value s m e f = let w = units-of s m e f in (refl, w .is ∙ ap (λ (x : ℕ). x * down e) (sym (in-units-is s m e w)))
 
 -- no such value lies between s * 2 ^ k units and (s + 1) * 2 ^ k, for an s of 24 digits
 between : (s k n j : ℕ) → 2 ^ 23 ≤ s → n < 2 ^ 24 → (n * 2 ^ j ≤ s * 2 ^ k) ⊎ ((s + 1) * 2 ^ k ≤ n * 2 ^ j)

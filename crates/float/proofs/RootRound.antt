@@ -26,10 +26,10 @@ units-of-value nan a h = absurd h
 units-of-value (inf s) a h = absurd h
 units-of-value (fin s m e) a h = ap (λ (x : ℕ). x / down e) (h .1) ∙ mul-div-cancel a (down-pos e)
 
-abbrev pattern : ℕ → ℕ
+abbrev pub pattern : ℕ → ℕ
 pattern a = cond false (top binary32) 0 + (size a - prec binary32) * hid binary32 + a / 2 ^ (size a - prec binary32)
 
-pattern-of : (x : Float) (a : ℕ) → HasValue x false a (2 ^ 149) → toBits binary32 x ≡ pattern a
+pub pattern-of : (x : Float) (a : ℕ) → HasValue x false a (2 ^ 149) → toBits binary32 x ≡ pattern a
 unfolding toBits
 pattern-of nan a h = absurd h
 pattern-of (inf s) a h = absurd h

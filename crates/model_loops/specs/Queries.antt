@@ -4,9 +4,9 @@ use mathlib.Core.List.{List, []}
 use lib.ListN.{length, getD}
 use lib.Ieee.{Float, nan}
 use Rattle.motor_core.specs.declared.name.Name.{Name}
-use Rattle.models.specs.Matching.{match-models}
+use Rattle.matching.specs.Matching.{match-models}
 use Rattle.models.specs.Models.{damiao-models, list-of}
-use Rattle.models.specs.Suggestion.{suggest-models}
+use Rattle.suggestion.specs.Suggestion.{suggest-models}
 use Rattle.models.specs.declared.list.Maxima.{Maxima}
 use Rattle.models.specs.declared.list.ModelList.{ModelList}
 use Rattle.models.specs.declared.list.Names.{Names}

@@ -4,14 +4,14 @@ ghost use mathlib.Core.Path.{_≡_};
 ghost use Prim.Native.Nat.{_+_, _≤_, _<_};
 ghost use lib.ListN.{length};
 ghost use Rattle.model_loops.specs.Queries as Spec;
+use matching::match_models_by_limits;
 use models::list::Maxima;
 use models::list::ModelList;
 use models::list::Names;
 use models::list::damiao_models;
 use models::list::places;
-use models::matching::match_models_by_limits;
-use models::suggestion::suggest_models_by_limits;
 use motor_core::name::Name;
+use suggestion::suggest_models_by_limits;
 
 fn wide(byte: u8) -> u64
     ensures { λ r. ⌜ (r ≡ byte) × (r < 256) ⌝ }

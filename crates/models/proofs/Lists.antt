@@ -1,14 +1,14 @@
 -- Lists of a fixed length with a count: one element more, and what a list's type says of its length. Assumes nothing.
 use Prim.Native.Nat.{ℕ, suc, _+_, _-_, _≤_, _<_, min}
-use mathlib.Core.Path.{_≡_, refl, sym, ap, _∙_, subst}
-use mathlib.Core.Bool.{Bool, true, false, not, cond}
+use mathlib.Core.Path.{_≡_, sym, ap, _∙_, subst}
+use mathlib.Core.Bool.{Bool, true, false, not}
 use mathlib.Core.List.{List, [], _∷_, _++_, append-assoc}
 use native.Mathlib.Nat.{min-eq-left, min-eq-right, min-le-left, le-of-lt, le-of-eq, lt-of-lt-of-le}
 use native.Mathlib.Numerals.{add-one}
 use native.Mathlib.Omega.{arith}
 use lib.Dec.{T, leb, leb→le, nleb→lt}
 use lib.ListN.{length, take, drop, getD, set, replicate, length-append, length-take, length-map, drop-of-length-le}
-use lib.Seq.{set-append-seam, take-all, take-suc, drop-cons, getD-take}
+use lib.Seq.{set-append-seam, take-all, drop-cons, getD-take}
 use mir.Val.{Val}
 use denote.Laws.{Is}
 use denote.Struct.Laws as Laws
@@ -16,7 +16,6 @@ use Rattle.motor_core.proofs.name.Name as Name·row
 use Rattle.motor_core.specs.Name.{name-of}
 use Rattle.motor_core.specs.declared.name.Name.{Name}
 use Rattle.models.specs.Listing.{models-of, names-of}
-use Rattle.models.specs.Matching.{keep}
 use Rattle.models.specs.declared.list.ModelList.{ModelList}
 use Rattle.models.specs.declared.list.Names.{Names}
 use Rattle.models.proofs.list.MotorModelSpec as Model·row
@@ -92,18 +91,3 @@ module _ {A : Type 0} (n m : ℕ) (l : List A) (sized : length l ≡ m) where
 
   pub held-end : (i : ℕ) → min n m ≤ i → drop i (take n l) ≡ []
   held-end i h = drop-of-length-le (take n l) (subst (λ (k : ℕ). k ≤ i) (sym held-length) h)
-
--- the elements that pass a test, with the next one
-module _ {A : Type 0} (test : A → Bool) where
-  keep-append : (l r : List A) → keep test (l ++ r) ≡ keep test l ++ keep test r
-  unfolding keep
-  keep-append [] r = refl
-  keep-append (x ∷ l) r = by (test x) (keep-append l r)
-    where
-      by : (b : Bool) → keep test (l ++ r) ≡ keep test l ++ keep test r
-          → cond b (x ∷ keep test (l ++ r)) (keep test (l ++ r)) ≡ cond b (x ∷ keep test l) (keep test l) ++ keep test r
-      by true h = ap (λ (s : List A). x ∷ s) h
-      by false h = h
-
-  pub keep-next : (l : List A) (i : ℕ) (d : A) → i < length l → keep test (take (i + 1) l) ≡ keep test (take i l) ++ keep test (getD l i d ∷ [])
-  keep-next l i d h = ap (λ (k : ℕ). keep test (take k l)) (add-one i) ∙ ap (keep test) (take-suc l i d h) ∙ keep-append (take i l) (getD l i d ∷ [])

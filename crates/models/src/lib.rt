@@ -1,6 +1,4 @@
-// The models of motors: their limits by name, and which models have limits that match or come near
-// to those asked for. Every function takes the list of models as a value.
+// The models of motors: the built-in list, a model's limits by its name, and the names that are
+// shown. Whoever goes by a list of models takes it as a value.
 pub mod display;
 pub mod list;
-pub mod matching;
-pub mod suggestion;

@@ -1,6 +1,9 @@
 -- `model_loops::matched` meets its contract. Assumes nothing.
+use Prim.Native.Nat.{_+_}
 use borrow.Author.Needs.{needs}
-use Rattle.models.specs.Matching.{match-models}
+use lib.Ieee.{nan}
+use lib.ListN.{getD}
+use Rattle.matching.specs.Matching.{match-models}
 use Rattle.model_loops.proofs.Alike.{same-query}
 use Rattle.model_loops.proofs.matched.Statement.{statement}
 use Rattle.model_loops.proofs.matched.Tie as tie
@@ -24,7 +27,8 @@ returns : tie.Need-returns
 returns c =
     let matching = c .before in
     let asked = matching .before .before in
-    same-query match-models _ _ _ _ _ (asked .query-at .ensures) (matching .match-models-by-limits .ensures)
+    let a = asked .before .before .args in
+    same-query match-models (a .list) _ _ (getD (a .xs .now) (a .at + 3) nan) _ (asked .query-at .ensures) (matching .match-models-by-limits .ensures)
 
 pub matched-spec : {M : Type 1} → statement M
 matched-spec =

@@ -1,6 +1,6 @@
 -- `model_loops::suggested` meets its contract. Assumes nothing.
 use borrow.Author.Needs.{needs}
-use Rattle.models.specs.Suggestion.{suggest-models}
+use Rattle.suggestion.specs.Suggestion.{suggest-models}
 use Rattle.model_loops.proofs.Alike.{same-query}
 use Rattle.model_loops.proofs.suggested.Statement.{statement}
 use Rattle.model_loops.proofs.suggested.Tie as tie
@@ -15,7 +15,7 @@ returns : tie.Need-returns
 returns c =
     let suggesting = c .before in
     let asked = suggesting .before in
-    same-query suggest-models _ _ _ _ _ (asked .query-at .ensures) (suggesting .suggest-models-by-limits .ensures)
+    same-query suggest-models (asked .before .before .args .list) _ _ 3 _ (asked .query-at .ensures) (suggesting .suggest-models-by-limits .ensures)
 
 pub suggested-spec : {M : Type 1} → statement M
 suggested-spec =

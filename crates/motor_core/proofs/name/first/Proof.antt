@@ -1,6 +1,6 @@
 -- `motor_core::name::first` meets its contract. Assumes nothing.
 use Prim.Native.Nat.{ℕ}
-use mathlib.Core.Path.{_≡_, sym, ap}
+use mathlib.Core.Path.{sym, ap}
 use native.Mathlib.Nat.{sub-zero}
 use lib.ListN.{take}
 use lib.Seq.{take-all}

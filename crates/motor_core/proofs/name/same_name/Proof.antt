@@ -1,5 +1,5 @@
 -- `motor_core::name::same_name` meets its contract. Assumes nothing.
-use mathlib.Core.Path.{_≡_, ap, _∙_}
+use mathlib.Core.Path.{ap, _∙_}
 use Rattle.text.specs.Text.{same}
 use Rattle.motor_core.specs.Name.{spelling}
 use borrow.Author.Needs.{needs}

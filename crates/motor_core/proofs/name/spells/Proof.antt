@@ -1,6 +1,6 @@
 -- `motor_core::name::spells` meets its contract. Assumes nothing.
 use Prim.Native.Nat.{ℕ}
-use mathlib.Core.Path.{_≡_, ap, _∙_}
+use mathlib.Core.Path.{ap, _∙_}
 use mathlib.Core.List.{List}
 use Rattle.text.specs.Text.{same}
 use borrow.Author.Needs.{needs}

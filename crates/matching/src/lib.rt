@@ -1,0 +1,94 @@
+// The models whose limits match a query.
+ghost use mathlib.Core.Path.{_≡_};
+ghost use Rattle.models.specs.Listing.{models-of, names-of};
+ghost use Rattle.matching.specs.Matching as Spec;
+use models::list::Maxima;
+use models::list::ModelList;
+use models::list::MotorModelSpec;
+use models::list::Names;
+use models::list::no_names;
+use models::list::places;
+use motor_core::error::QUERY;
+
+pub enum Outcome {
+    Listed,
+    Refused(u8),
+}
+
+// A refusal has no names beside it.
+pub struct Listing {
+    pub outcome: Outcome,
+    pub names: Names,
+}
+
+fn queryable(x: f32) -> bool
+    ensures { λ r. ⌜ r ≡ Spec.queryable x ⌝ }
+{
+    x >= -65536.0 && x <= 65536.0
+}
+
+pub fn accepts_query(query: Maxima) -> bool
+    ensures { λ r. ⌜ r ≡ Spec.query-accepted query ⌝ }
+{
+    queryable(query.p_max) && queryable(query.v_max) && queryable(query.t_max)
+}
+
+pub fn refused() -> Listing
+    ensures { λ r. ⌜ r ≡ Spec.refused ⌝ }
+{
+    Listing {
+        outcome: Outcome::Refused(QUERY),
+        names: no_names(),
+    }
+}
+
+// Whether the two are no further apart than the tolerance.
+fn within(tol: f32, x: f32, y: f32) -> bool
+    ensures { λ r. ⌜ r ≡ Spec.within tol x y ⌝ }
+{
+    let d = x - y;
+    if d < 0.0 { -d <= tol } else { d <= tol }
+}
+
+fn matches(query: Maxima, tol: f32, spec: MotorModelSpec) -> bool
+    ensures { λ r. ⌜ r ≡ Spec.matches query tol spec ⌝ }
+{
+    let maxima = spec.maxima;
+    within(tol, maxima.p_max, query.p_max)
+        && within(tol, maxima.v_max, query.v_max)
+        && within(tol, maxima.t_max, query.t_max)
+}
+
+fn matching_names(list: ModelList, query: Maxima, tol: f32) -> Names
+    ensures { λ r. ⌜ r ≡ names-of (Spec.matching-names (models-of list) query tol) ⌝ }
+{
+    let mut found = no_names();
+    let mut n: usize = 0;
+    let count = places(list.count);
+    let mut i: usize = 0;
+    while i < count {
+        let spec = list.models[i];
+        if matches(query, tol, spec) {
+            let name = spec.model;
+            found.names[n] = name;
+            n += 1;
+        }
+        i += 1;
+    }
+    found.count = n as u8;
+    found
+}
+
+// The models, in the list's order, whose three limits each differ from the query's by no more than
+// the tolerance.
+pub fn match_models_by_limits(list: ModelList, query: Maxima, tol: f32) -> Listing
+    ensures { λ r. ⌜ r ≡ Spec.match-models list query tol ⌝ }
+{
+    if !accepts_query(query) {
+        return refused();
+    }
+    Listing {
+        outcome: Outcome::Listed,
+        names: matching_names(list, query, tol),
+    }
+}

@@ -1,0 +1,3 @@
+pub mod Inserting
+pub mod Order
+pub mod Ranking
