@@ -1,3 +1,4 @@
 pub mod Inserting
+pub mod Nearness
 pub mod Order
 pub mod Ranking
