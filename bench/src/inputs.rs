@@ -1,5 +1,6 @@
 //! What is measured: a million of each, from a fixed seed.
 
+use motor_vendor_damiao::motor::adapter;
 use motor_vendor_damiao::registers::{register_info, REGISTER_TABLE};
 
 pub const COUNT: usize = 1_000_000;
@@ -45,6 +46,19 @@ pub fn setpoints(random: &mut Random, beyond: f32) -> Vec<f32> {
             let more = beyond * (high - low);
             all.push(random.between(low - more, high + more));
         }
+    }
+    all
+}
+
+/// Queries within `reach` of a model's limits. With a tolerance, that is the fourth number of each.
+pub fn queries(random: &mut Random, reach: f32, tolerance: Option<f32>) -> Vec<f32> {
+    let models: Vec<[f32; 3]> = adapter::models().map(|(_, limits)| limits).collect();
+    let mut all = Vec::with_capacity(4 * COUNT);
+    for _ in 0..COUNT {
+        for limit in models[random.next() as usize % models.len()] {
+            all.push(limit + random.between(-reach, reach));
+        }
+        all.extend(tolerance);
     }
     all
 }

@@ -10,6 +10,8 @@ use inputs::{Frame, Random};
 use measure::{Row, Work};
 
 const SEED: u64 = 4310;
+/// How far a query may be from a model's limits.
+const REACH: f32 = 2.0;
 
 fn encode(random: &mut Random, name: &'static str, beyond: f32, n: usize) -> Result<Row, String> {
     let input = inputs::setpoints(random, beyond);
@@ -52,6 +54,35 @@ fn sort(
     work.measured(n)
 }
 
+fn matching(
+    random: &mut Random,
+    name: &'static str,
+    tolerance: f32,
+    n: usize,
+) -> Result<Row, String> {
+    let input = inputs::queries(random, REACH, Some(tolerance));
+    let work = Work {
+        name,
+        input: &input,
+        width: 4,
+        ours: ours::matching,
+        original: original::matching,
+    };
+    work.measured(n)
+}
+
+fn suggest(random: &mut Random, name: &'static str, n: usize) -> Result<Row, String> {
+    let input = inputs::queries(random, REACH, None);
+    let work = Work {
+        name,
+        input: &input,
+        width: 3,
+        ours: ours::suggest,
+        original: original::suggest,
+    };
+    work.measured(n)
+}
+
 fn rows(n: usize) -> Result<Vec<Row>, String> {
     let r = &mut Random(SEED);
     Ok(vec![
@@ -64,6 +95,9 @@ fn rows(n: usize) -> Result<Vec<Row>, String> {
         sort(r, "sort feedback, d1 up to 0F", inputs::low_feedback, n)?,
         sort(r, "sort unknown registers", inputs::unknown_register, n)?,
         sort(r, "sort, a third of each class", inputs::mixed, n)?,
+        matching(r, "match, tolerance 1", 1.0, n)?,
+        matching(r, "match, tolerance 20", 20.0, n)?,
+        suggest(r, "suggest three", n)?,
     ])
 }
 

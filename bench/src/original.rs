@@ -1,6 +1,7 @@
 //! The original's functions in the same loops.
 
 use motor_vendor_damiao::motor::adapter::{sort as class_of, FrameClass};
+use motor_vendor_damiao::motor::{match_models_by_limits, suggest_models_by_limits};
 use motor_vendor_damiao::protocol::{decode_sensor_feedback, encode_mit_cmd, Limits};
 
 /// Model 4310.
@@ -46,6 +47,35 @@ pub fn sort(frames: &[u8]) -> u64 {
         };
     }
     sum
+}
+
+#[inline(never)]
+pub fn matching(queries: &[f32]) -> u64 {
+    let mut sum = 0u64;
+    for x in queries.chunks_exact(4) {
+        let names = match_models_by_limits(x[0], x[1], x[2], x[3]);
+        sum = sum.wrapping_add(names_total(&names));
+    }
+    sum
+}
+
+#[inline(never)]
+pub fn suggest(queries: &[f32]) -> u64 {
+    let mut sum = 0u64;
+    for x in queries.chunks_exact(3) {
+        let names = suggest_models_by_limits(x[0], x[1], x[2], 3);
+        sum = sum.wrapping_add(names_total(&names));
+    }
+    sum
+}
+
+/// The names in their order: each adds its length and first four bytes to twice what came before.
+fn names_total(names: &[&str]) -> u64 {
+    names.iter().fold(0, |sum: u64, name| {
+        let first = name.as_bytes()[..4].try_into().expect("four bytes");
+        let code = name.len() as u64 + (u64::from(u32::from_le_bytes(first)) << 8);
+        sum.wrapping_add(sum).wrapping_add(code)
+    })
 }
 
 fn eight(frame: &[u8]) -> [u8; 8] {

@@ -1,10 +1,16 @@
-//! The proved loops of crate bench_loops. Each takes a slice as pointer and length.
+//! The proved loops of crates bench_loops and model_loops. Each takes a slice as pointer and length.
 
 #[link(name = "bench_loops", kind = "static")]
 extern "C" {
     fn bench_loops_encode_mit(xs: *const f32, len: usize) -> u64;
     fn bench_loops_decode_feedback(frames: *const u8, len: usize) -> f32;
     fn bench_loops_sort(frames: *const u8, len: usize) -> u64;
+}
+
+#[link(name = "model_loops", kind = "static")]
+extern "C" {
+    fn model_loops_match(xs: *const f32, len: usize) -> u64;
+    fn model_loops_suggest(xs: *const f32, len: usize) -> u64;
 }
 
 pub fn encode_mit(setpoints: &[f32]) -> u64 {
@@ -21,4 +27,14 @@ pub fn decode_feedback(frames: &[u8]) -> u64 {
 pub fn sort(frames: &[u8]) -> u64 {
     // SAFETY: as above.
     unsafe { bench_loops_sort(frames.as_ptr(), frames.len()) }
+}
+
+pub fn matching(queries: &[f32]) -> u64 {
+    // SAFETY: as above.
+    unsafe { model_loops_match(queries.as_ptr(), queries.len()) }
+}
+
+pub fn suggest(queries: &[f32]) -> u64 {
+    // SAFETY: as above.
+    unsafe { model_loops_suggest(queries.as_ptr(), queries.len()) }
 }

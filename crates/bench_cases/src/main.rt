@@ -2,7 +2,13 @@
 use float::F32Bits;
 use frame::Command;
 use libc::STDOUT_FILENO;
+use models::list::Maxima;
+use models::list::Names;
+use models::list::damiao_models;
+use models::list::places;
+use motor_core::name::Name;
 use received::feedback::Decoded;
+use suggestion::suggest_models_by_limits;
 
 fn text(words: &[u8]) {
     io::write_all(STDOUT_FILENO, words);
@@ -39,6 +45,37 @@ fn bits(x: f32) -> u64 {
     pattern.0 as u64
 }
 
+fn first(bytes: &[u8], len: usize) {
+    if len <= bytes.len() {
+        text(&bytes[0..len]);
+    }
+}
+
+// A space and the name.
+fn word(name: Name) {
+    let bytes = name.bytes;
+    text(b" ");
+    first(&bytes, name.len as usize);
+}
+
+fn words(names: Names) {
+    let held = names.names;
+    let count = places(names.count);
+    for i in 0..count {
+        let name = held[i];
+        word(name);
+    }
+}
+
+// The models nearest to a query, in their order.
+fn nearest(name: &[u8], query: Maxima, count: usize) {
+    let listing = suggest_models_by_limits(damiao_models(), query, count);
+    let names = listing.names;
+    text(name);
+    words(names);
+    text(b"\n");
+}
+
 fn main() {
     // Encoding a decoded code does not always give that code.
     let decoded = position(F32Bits(0x4148_0000), 0x00, 0x01);
@@ -57,5 +94,24 @@ fn main() {
     line(
         b"limit 3F808000, code FFFF decodes to ",
         bits(position(F32Bits(0x3f80_8000), 0xff, 0xff)),
+    );
+    nearest(
+        b"nearest three to 12.5, 30, 10:",
+        Maxima {
+            p_max: 12.5,
+            v_max: 30.0,
+            t_max: 10.0,
+        },
+        3,
+    );
+    // 8006 has the smaller square, but the roots round alike, so the list's order decides.
+    nearest(
+        b"nearest ten to C692A844, 46A12838, C7276C48:",
+        Maxima {
+            p_max: float::of_bits(F32Bits(0xc692_a844)),
+            v_max: float::of_bits(F32Bits(0x46a1_2838)),
+            t_max: float::of_bits(F32Bits(0xc727_6c48)),
+        },
+        10,
     );
 }

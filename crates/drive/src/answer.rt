@@ -1,5 +1,6 @@
 // The answer to a line, put into the output with its newline.
 use crate::commands;
+use crate::listing;
 use crate::reports;
 use script::Call;
 use script::calls;
@@ -25,11 +26,10 @@ pub(crate) fn answer_line(line: &[u8], output: &mut [u8], to: usize) -> usize {
 fn answer(call: Call, output: &mut [u8], to: usize) -> usize {
     let code = call.code;
     match code {
-        calls::START_LIMITS | calls::START_MODEL | calls::MATCH | calls::SUGGEST => {
-            not_built(output, to)
-        }
+        calls::START_LIMITS | calls::START_MODEL => not_built(output, to),
         calls::GET_U32..=calls::SESSION => put(output, to, b"no session"),
         calls::MIT..=calls::CLEAR => commands::put_command(commands::made(call), output, to),
+        calls::MATCH | calls::SUGGEST => listing::answer(call, output, to),
         _ => reports::answer(call, output, to),
     }
 }

@@ -3,6 +3,7 @@ mod answer;
 mod commands;
 mod fields;
 mod lines;
+mod listing;
 mod reports;
 
 fn main() {

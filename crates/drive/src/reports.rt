@@ -80,7 +80,7 @@ fn put_status(status: u8, output: &mut [u8], to: usize) -> usize {
 }
 
 // The first `len` bytes of a name.
-fn put_name(bytes: &[u8], len: usize, output: &mut [u8], to: usize) -> usize {
+pub(crate) fn put_name(bytes: &[u8], len: usize, output: &mut [u8], to: usize) -> usize {
     if len <= bytes.len() {
         return put(output, to, &bytes[0..len]);
     }

@@ -93,7 +93,7 @@ pub fn frames_in(rng: &mut Rng) -> Vec<u8> {
 pub fn models(rng: &mut Rng) -> Vec<u8> {
     let queries = values::queries(rng);
     if rng.chance(50) {
-        let tolerance = values::tolerance(rng);
+        let tolerance = values::tolerance(rng, queries);
         Text::new("match")
             .floats(rng, &queries)
             .float(rng, tolerance)
@@ -102,6 +102,8 @@ pub fn models(rng: &mut Rng) -> Vec<u8> {
         let count = match rng.below(8) {
             0 => rng.next(),
             1 => u64::MAX,
+            2 => rng.pick(&[0, 1, 16, 17, 256, 1 << 32, (1 << 32) + 3]),
+            3..=5 => 16,
             _ => rng.below(19),
         };
         Text::new("suggest")

@@ -119,7 +119,10 @@ pub fn scaled(rng: &mut Rng, max: f32, steps: u32) -> u32 {
 pub fn queries(rng: &mut Rng) -> [u32; 3] {
     let base = model_limits(rng);
     let other = model_limits(rng);
-    let kind = rng.below(8);
+    let kind = rng.below(12);
+    if kind > 7 {
+        return between(rng, base, other);
+    }
     std::array::from_fn(|at| {
         let (base, other) = (f32::from_bits(base[at]), f32::from_bits(other[at]));
         match kind {
@@ -146,8 +149,29 @@ pub fn queries(rng: &mut Rng) -> [u32; 3] {
     })
 }
 
-pub fn tolerance(rng: &mut Rng) -> u32 {
-    match rng.below(8) {
+/// Three numbers as far from one model as from the other, or nearly, by moving one of them.
+fn between(rng: &mut Rng, one: [u32; 3], other: [u32; 3]) -> [u32; 3] {
+    let exact = |bits: [u32; 3]| bits.map(|bits| f64::from(f32::from_bits(bits)));
+    let (one, other) = (exact(one), exact(other));
+    let reach = rng.pick(&[1.0, 60.0, 1_000.0, 65_536.0]);
+    let mut query: [f64; 3] =
+        std::array::from_fn(|at| f64::from((one[at] + (rng.unit() * 2.0 - 1.0) * reach) as f32));
+    let apart = |at: usize| other[at] - one[at];
+    let moved = if apart(1).abs() > apart(2).abs() {
+        1
+    } else {
+        2
+    };
+    if apart(moved) != 0.0 {
+        let beyond = |at: usize| apart(at) * (query[at] - (one[at] + other[at]) / 2.0);
+        let rest: f64 = (0..3).filter(|at| *at != moved).map(beyond).sum();
+        query[moved] = (one[moved] + other[moved]) / 2.0 - rest / apart(moved);
+    }
+    query.map(|number| near(rng, number as f32))
+}
+
+pub fn tolerance(rng: &mut Rng, query: [u32; 3]) -> u32 {
+    match rng.below(14) {
         0 => 0,
         1 => special(rng),
         2 => {
@@ -157,8 +181,24 @@ pub fn tolerance(rng: &mut Rng) -> u32 {
         3 => ((rng.unit() * 200.0) as f32).to_bits(),
         4 => (rng.below(60) as f32).to_bits(),
         5 => 0x3880_0000 + rng.below(0x1000_0000) as u32,
-        _ => (rng.unit() as f32).to_bits(),
+        6 => (rng.unit() as f32).to_bits(),
+        7 => ((rng.unit() * -60.0) as f32).to_bits(),
+        8 => ((rng.unit() * 65_536.0) as f32).to_bits(),
+        9 | 10 => {
+            let one = differences(rng, query)[rng.below(3) as usize];
+            near(rng, one)
+        }
+        _ => {
+            let largest = differences(rng, query).into_iter().fold(0.0, f32::max);
+            near(rng, largest)
+        }
     }
+}
+
+/// How far a model's limits are from a query: the largest is the tolerance that just matches it.
+fn differences(rng: &mut Rng, query: [u32; 3]) -> [f32; 3] {
+    let model = model_limits(rng);
+    std::array::from_fn(|at| (f32::from_bits(model[at]) - f32::from_bits(query[at])).abs())
 }
 
 /// The difference of two models' limits, which a tolerance may just reach.
