@@ -1,49 +1,54 @@
--- A float's sign dropped, by the test against 0. Assumes nothing.
-use Prim.Native.Nat.{ℕ, zero, suc, _+_, _*_, _<_}
-use mathlib.Core.Path.{_≡_, refl, sym, ap, _∙_}
-use mathlib.Core.Bool.{Bool, true, false, _||_, true≢false}
-use native.Mathlib.Nat.{zero-add, zero-mul, mul-pos}
+-- A float's sign dropped is at most another where the float and its negative are. Assumes nothing.
+use Prim.Native.Nat.{ℕ, _+_, _*_}
+use mathlib.Core.Path.{_≡_, refl, ap, _∙_}
+use mathlib.Core.Bool.{Bool, true, false, _||_, _&&_, and-true, and-comm}
 use native.Mathlib.Omega.{arith}
-use lib.IntN.{ℤ, pos}
+use lib.Dec.{ltb, eqb}
+use lib.IntN.{ℤ}
 use lib.Ieee.{Float, nan, inf, fin, lt, le, eq, neg, up, down, below, level}
-use lib.Ieee.Fits.{up-pos}
-use borrow.Author.Tests.{lt-ltb, le-ltb}
+use borrow.Author.Tests.{ltb-false, eq-eqb}
 use Rattle.matching.specs.Matching.{magnitude}
 
--- 0 has either sign
-zero-le : (s : Bool) (e : ℤ) (t : Float) → le (fin s 0 e) t ≡ le (fin false 0 e) t
+-- -a is at most b, for an a and a b of which neither is below 0
+minus-le : (a b : ℕ) → (below true a false b || level true a false b) ≡ true
+minus-le a b = go (ltb 0 (a + b)) refl
+  where
+    none : a + b ≡ 0 → level true a false b ≡ true
+    none h = simp (eq-eqb a b (omega arith), eq-eqb a 0 (omega arith))
+
+    go : (t : Bool) → ltb 0 (a + b) ≡ t → (t || level true a false b) ≡ true
+    go true e = refl
+    go false e = none (omega (arith, ltb-false 0 (a + b) e))
+
+-- what is at least a magnitude is at least its negative
+negative-too : (m : ℕ) (e : ℤ) (t : Float) → (le (fin false m e) t && le (fin true m e) t) ≡ le (fin false m e) t
 unfolding le lt eq
-zero-le false e t = refl
-zero-le true e nan = refl
-zero-le true e (inf t) = refl
-zero-le true e (fin t n d) = by t (0 * up e * down d) (n * up d * down e) (ap (λ (k : ℕ). k * down d) (zero-mul (up e)) ∙ zero-mul (down d))
+negative-too m e nan = refl
+negative-too m e (inf true) = refl
+negative-too m e (inf false) = refl
+negative-too m e (fin false n d) =
+    let a = m * up e * down d in
+    let b = n * up d * down e in
+    ap (λ (t : Bool). (below false a false b || level false a false b) && t) (minus-le a b) ∙ and-true (below false a false b || level false a false b)
+negative-too m e (fin true n d) = go (eqb (m * up e * down d) (n * up d * down e)) (ltb (n * up d * down e) (m * up e * down d)) (eqb (m * up e * down d) 0)
   where
-    by : (t : Bool) (a b : ℕ) → a ≡ 0 → (below true a t b || level true a t b) ≡ (below false a t b || level false a t b)
-    by false a b h = rw (h, zero-add)
-    by true a b h = rw h (ap (λ (u : Bool). u || level true 0 true b) (le-ltb b 0 (omega arith)))
+    go : (same above none : Bool) → ((same && (false || none)) && (above || (same && true))) ≡ (same && (false || none))
+    go true true true = refl
+    go true true false = refl
+    go true false true = refl
+    go true false false = refl
+    go false above none = refl
 
-pub drop-minus : (d t : Float) → lt d (fin false 0 (pos 0)) ≡ true → le (neg d) t ≡ le (magnitude d) t
-unfolding lt neg magnitude
-drop-minus nan t h = absurd (true≢false (sym h))
-drop-minus (inf true) t h = refl
-drop-minus (inf false) t h = absurd (true≢false (sym h))
-drop-minus (fin true m e) t h = refl
-drop-minus (fin false m e) t h = absurd (true≢false (sym h ∙ le-ltb (m * up e * 1) (0 * 1 * down e) (omega arith)))
-
-pub drop-plus : (d t : Float) → lt d (fin false 0 (pos 0)) ≡ false → le d t ≡ le (magnitude d) t
-unfolding lt neg magnitude
-drop-plus nan t h = refl
-drop-plus (inf true) t h = absurd (true≢false h)
-drop-plus (inf false) t h = refl
-drop-plus (fin false m e) t h = refl
-drop-plus (fin true zero e) t h = zero-le true e t
-drop-plus (fin true (suc m) e) t h = absurd (true≢false (sym (lt-ltb 0 (suc m * up e * 1 + 0 * 1 * down e) (positive (suc m * up e * 1) (0 * 1 * down e) (mul-pos (mul-pos (suc-pos m) (up-pos e)) one))) ∙ h))
-  where
-    suc-pos : (m : ℕ) → 0 < suc m
-    suc-pos m = omega arith
-
-    one : 0 < 1
-    one = omega arith
-
-    positive : (a b : ℕ) → 0 < a → 0 < a + b
-    positive a b h = omega arith
+pub magnitude-le : (d t : Float) → (le d t && le (neg d) t) ≡ le (magnitude d) t
+unfolding le lt eq neg magnitude
+magnitude-le nan t = refl
+magnitude-le (inf true) nan = refl
+magnitude-le (inf true) (inf true) = refl
+magnitude-le (inf true) (inf false) = refl
+magnitude-le (inf true) (fin s n d) = refl
+magnitude-le (inf false) nan = refl
+magnitude-le (inf false) (inf true) = refl
+magnitude-le (inf false) (inf false) = refl
+magnitude-le (inf false) (fin s n d) = refl
+magnitude-le (fin false m e) t = negative-too m e t
+magnitude-le (fin true m e) t = and-comm (le (fin true m e) t) (le (fin false m e) t) ∙ negative-too m e t

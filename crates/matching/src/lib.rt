@@ -47,7 +47,7 @@ fn within(tol: f32, x: f32, y: f32) -> bool
     ensures { λ r. ⌜ r ≡ Spec.within tol x y ⌝ }
 {
     let d = x - y;
-    if d < 0.0 { -d <= tol } else { d <= tol }
+    d <= tol && -d <= tol
 }
 
 fn matches(query: Maxima, tol: f32, spec: MotorModelSpec) -> bool

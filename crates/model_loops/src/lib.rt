@@ -34,11 +34,10 @@ fn code(name: Name) -> u64
 fn names_total(names: Names) -> u64
     ensures { λ r. ⌜ r ≡ Spec.names-total names ⌝ }
 {
-    let held = names.names;
     let mut sum: u64 = 0;
     let count = places(names.count);
     for i in 0..count {
-        let name = held[i];
+        let name = names.names[i];
         let twice = std::num::wrapping_add_u64(sum, sum);
         sum = std::num::wrapping_add_u64(twice, code(name));
     }

@@ -1,17 +1,19 @@
 -- `matching::within` meets its contract. Assumes nothing.
-use lib.Ieee.{ofBits, sub, binary32}
+use mathlib.Core.Path.{refl, _∙_}
+use lib.Ieee.{sub, binary32}
 use Rattle.matching.specs.Matching as Spec
-use Rattle.matching.proofs.Magnitude.{drop-minus, drop-plus}
+use Rattle.matching.proofs.Magnitude.{magnitude-le}
+use Rattle.matching.proofs.Tests.{both, neither}
 use Rattle.matching.proofs.within.Statement.{statement}
 use Rattle.matching.proofs.within.Tie as tie
 
 returns : tie.Need-returns
-unfolding Spec.within ofBits
-returns c = let a = c .before .args in drop-minus (sub binary32 (a .x) (a .y)) (a .tol) (c .if1 .taken)
+unfolding Spec.within
+returns c = let a = c .before .args in both _ _ refl refl (c .if1 .taken) ∙ magnitude-le (sub binary32 (a .x) (a .y)) (a .tol)
 
 returns-2 : tie.Need-returns-2
-unfolding Spec.within ofBits
-returns-2 c = let a = c .before .args in drop-plus (sub binary32 (a .x) (a .y)) (a .tol) (c .if1 .left)
+unfolding Spec.within
+returns-2 c = let a = c .before .args in neither _ _ refl (c .if1 .left) ∙ magnitude-le (sub binary32 (a .x) (a .y)) (a .tol)
 
 pub within-spec : {M : Type 1} → statement M
 within-spec = tie.close (tie.spec returns returns-2)

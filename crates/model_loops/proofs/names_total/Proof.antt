@@ -12,11 +12,11 @@ use Rattle.model_loops.proofs.names_total.Statement.{statement}
 use Rattle.model_loops.proofs.names_total.Tie as tie
 
 abbrev Inv-loop : tie.InvT-loop
-Inv-loop held sum₀ count i₀ sum i =
-    (count ≤ 16) × (i ≤ count) × (sum ≡ total twice-and 0 (λ j. code (getD held j (record { bytes = []; len = 0 }))) i)
+Inv-loop names sum₀ count i₀ sum i =
+    (count ≤ 16) × (i ≤ count) × (sum ≡ total twice-and 0 (λ j. code (getD (names .names) j (record { bytes = []; len = 0 }))) i)
 
 abbrev μ-loop : tie.MeasureT-loop
-μ-loop held sum₀ count i₀ sum i = count - i
+μ-loop names sum₀ count i₀ sum i = count - i
 
 places-requires : tie.Need-places-requires Inv-loop μ-loop
 places-requires c κs = search needs
@@ -28,8 +28,8 @@ loop-holds c = (omega arith, omega arith, refl)
 mul-name : tie.Need-mul-name Inv-loop μ-loop
 mul-name c = omega arith
 
-array-copy-out-name : tie.Need-array-copy-out-name Inv-loop μ-loop
-array-copy-out-name c = omega arith
+element-copy-out-name : tie.Need-element-copy-out-name Inv-loop μ-loop
+element-copy-out-name c = omega arith
 
 wrapping-add-u64-requires : tie.Need-wrapping-add-u64-requires Inv-loop μ-loop
 wrapping-add-u64-requires c κs = search needs
@@ -67,7 +67,7 @@ names-total-spec =
     places-requires
     loop-holds
     mul-name
-    array-copy-out-name
+    element-copy-out-name
     wrapping-add-u64-requires
     code-requires
     wrapping-add-u64-requires-2
