@@ -15,13 +15,13 @@ greatest test (suc n) = cond (test (suc n)) (suc n) (greatest test n)
 unfoldable pub whole-root : ℕ → ℕ
 whole-root n = greatest (λ s. leb (s * s) n) n
 
--- the size of a finite value in units
+-- the size of a finite value in units; the division has no rest for an `f32` (`in-units-value` of proofs/RootNear.antt)
 abbrev pub in-units : Float → ℕ
 in-units nan = 0
 in-units (inf s) = 0
 in-units (fin s m e) = m * up e * 2 ^ 149 / down e
 
--- √n units, cut to whole units and then rounded to the nearest `f32`. Where n is an `f32`'s the cut does not show (`nearest` of proofs/RootLaw.antt)
+-- √n units, cut to whole units and then rounded to the nearest `f32`. For the n of `root` below the cut does not show (`nearest` of proofs/RootLaw.antt)
 unfoldable pub rounded-root : ℕ → Float
 rounded-root n = round binary32 false (whole-root n) (2 ^ 149)
 
@@ -35,7 +35,7 @@ root (fin true (suc m) e) = nan
 root (fin false (suc m) e) = rounded-root (in-units (fin false (suc m) e) * 2 ^ 149)
 
 -- r is the `f32` nearest to the root of u units: for every other value z the root is on r's side of their midpoint. That the root is below the midpoint of r and z is 4 * (u * 2 ^ 149) < (r + z) ^ 2, all in units.
--- Both orders are strict, as no root lies halfway between two values.
+-- Both orders are strict, as no root lies halfway between two values. A z below 0 counts by its size and one that is not finite as 0, of which the claim holds too.
 pub record NearRoot (u : ℕ) (r : Float) : Type 0 where
   pub is-f32 : T (fits binary32 r)
   pub above-zero : T (positive r)

@@ -6,7 +6,7 @@ use lib.Ieee.{Float, nan, inf, fin, le}
 use Rattle.float.specs.Arithmetic.{_⊖_}
 use Rattle.motor_core.specs.Error as Error
 use Rattle.motor_core.specs.declared.name.Name.{Name}
-use Rattle.models.specs.Listing.{models-of, names-of}
+use Rattle.models.specs.Counted.{models-of, names-of}
 use Rattle.models.specs.declared.list.Maxima.{Maxima}
 use Rattle.models.specs.declared.list.MotorModelSpec.{MotorModelSpec}
 use Rattle.models.specs.declared.list.ModelList.{ModelList}
@@ -52,12 +52,12 @@ unfoldable pub keep : {A : Type 0} → (A → Bool) → List A → List A
 keep test [] = []
 keep test (x ∷ rest) = cond (test x) (x ∷ keep test rest) (keep test rest)
 
-abbrev pub names-in : List MotorModelSpec → List Name
-names-in specs = map (λ (spec : MotorModelSpec). spec .model) specs
+abbrev pub model-names : List MotorModelSpec → List Name
+model-names specs = map (λ (spec : MotorModelSpec). spec .model) specs
 
 -- 'The model list', `match_models_by_limits`
 unfoldable pub matching-names : List MotorModelSpec → Maxima → Float → List Name
-matching-names specs query tolerance = names-in (keep (matches query tolerance) specs)
+matching-names specs query tolerance = model-names (keep (matches query tolerance) specs)
 
 abbrev pub match-models : ModelList → Maxima → Float → Listing
 match-models list query tolerance = answer query (matching-names (models-of list) query tolerance)

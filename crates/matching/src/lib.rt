@@ -1,6 +1,6 @@
 // The models whose limits match a query.
 ghost use mathlib.Core.Path.{_≡_};
-ghost use Rattle.models.specs.Listing.{models-of, names-of};
+ghost use Rattle.models.specs.Counted.{models-of, names-of};
 ghost use Rattle.matching.specs.Matching as Spec;
 use models::list::Maxima;
 use models::list::ModelList;
@@ -21,18 +21,21 @@ pub struct Listing {
     pub names: Names,
 }
 
+// Whether a float is finite and within ±65,536.
 fn queryable(x: f32) -> bool
     ensures { λ r. ⌜ r ≡ Spec.queryable x ⌝ }
 {
     x >= -65536.0 && x <= 65536.0
 }
 
+// Whether all three are.
 pub fn accepts_query(query: Maxima) -> bool
     ensures { λ r. ⌜ r ≡ Spec.query-accepted query ⌝ }
 {
     queryable(query.p_max) && queryable(query.v_max) && queryable(query.t_max)
 }
 
+// The answer to a query that is not taken.
 pub fn refused() -> Listing
     ensures { λ r. ⌜ r ≡ Spec.refused ⌝ }
 {

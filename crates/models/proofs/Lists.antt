@@ -15,7 +15,7 @@ use denote.Struct.Laws as Laws
 use Rattle.motor_core.proofs.name.Name as Name·row
 use Rattle.motor_core.specs.Name.{name-of}
 use Rattle.motor_core.specs.declared.name.Name.{Name}
-use Rattle.models.specs.Listing.{models-of, names-of}
+use Rattle.models.specs.Counted.{models-of, names-of}
 use Rattle.models.specs.declared.list.ModelList.{ModelList}
 use Rattle.models.specs.declared.list.Names.{Names}
 use Rattle.models.proofs.list.MotorModelSpec as Model·row

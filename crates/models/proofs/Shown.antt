@@ -9,7 +9,7 @@ use lib.ListN.{length, take, getD, length-append}
 use lib.Seq.{take-suc, take-append-seam}
 use Rattle.motor_core.specs.declared.name.Name.{Name}
 use Rattle.models.specs.Display.{display-name, among, with-name, display-after}
-use Rattle.models.specs.Listing.{held, names-of}
+use Rattle.models.specs.Counted.{held, names-of}
 use Rattle.models.specs.declared.list.Names.{Names}
 use Rattle.models.proofs.Lists.{Holds}
 

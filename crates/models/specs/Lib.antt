@@ -1,3 +1,3 @@
+pub mod Counted
 pub mod Display
-pub mod Listing
 pub mod Models

@@ -2,7 +2,7 @@
 ghost use mathlib.Core.Path.{_≡_};
 ghost use Prim.Native.Nat.{_<_};
 ghost use mathlib.Core.List.{[]};
-ghost use Rattle.models.specs.Listing.{held, names-of};
+ghost use Rattle.models.specs.Counted.{held, names-of};
 ghost use Rattle.models.specs.Display as Spec;
 use crate::list::Names;
 use crate::list::no_names;

@@ -2,7 +2,7 @@
 ghost use mathlib.Core.Path.{_≡_};
 ghost use Prim.Native.Nat.{min};
 ghost use mathlib.Core.List.{[]};
-ghost use Rattle.models.specs.Listing.{models-of, names-of};
+ghost use Rattle.models.specs.Counted.{models-of, names-of};
 ghost use Rattle.models.specs.Models.{damiao-models, list-of, limits-by-name};
 use motor_core::error::MODEL;
 use motor_core::name::Name;
@@ -216,6 +216,7 @@ const DAMIAO_MODELS: [MotorModelSpec; 16] = [
     },
 ];
 
+// The built-in list.
 pub fn damiao_models() -> ModelList
     ensures { λ r. ⌜ r ≡ list-of damiao-models ⌝ }
 {
@@ -225,6 +226,7 @@ pub fn damiao_models() -> ModelList
     }
 }
 
+// The list of no names.
 pub fn no_names() -> Names
     ensures { λ r. ⌜ r ≡ names-of [] ⌝ }
 {
@@ -237,7 +239,7 @@ pub fn no_names() -> Names
     }
 }
 
-// How many of sixteen places a count of them takes.
+// The count, or 16 where it is greater.
 pub fn places(count: u8) -> usize
     ensures { λ r. ⌜ r ≡ min count 16 ⌝ }
 {

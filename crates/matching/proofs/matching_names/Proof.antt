@@ -32,11 +32,11 @@ module _ (specs : List MotorModelSpec) (query : Maxima) (tol : Float) (i : ℕ) 
       → Spec.matching-names (take (i + 1) specs) query tol ≡ Spec.matching-names (take i specs) query tol ++ cond b (getD specs i d .model ∷ []) []
   unfolding Spec.matching-names Spec.keep
   with-next b h =
-      ap Spec.names-in (keep-next (Spec.matches query tol) specs i d within)
+      ap Spec.model-names (keep-next (Spec.matches query tol) specs i d within)
       ∙ map-append (λ (spec : MotorModelSpec). spec .model) (Spec.keep (Spec.matches query tol) (take i specs)) _
-      ∙ ap (λ (l : List Name). Spec.matching-names (take i specs) query tol ++ l) (ap (λ (t : Bool). Spec.names-in (cond t (getD specs i d ∷ []) [])) h ∙ one b)
+      ∙ ap (λ (l : List Name). Spec.matching-names (take i specs) query tol ++ l) (ap (λ (t : Bool). Spec.model-names (cond t (getD specs i d ∷ []) [])) h ∙ one b)
     where
-      one : (b : Bool) → Spec.names-in (cond b (getD specs i d ∷ []) []) ≡ cond b (getD specs i d .model ∷ []) []
+      one : (b : Bool) → Spec.model-names (cond b (getD specs i d ∷ []) []) ≡ cond b (getD specs i d .model ∷ []) []
       one true = refl
       one false = refl
 

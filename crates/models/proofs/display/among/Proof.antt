@@ -9,7 +9,7 @@ use Rattle.text.specs.Text.{same}
 use Rattle.motor_core.specs.Name.{spelling}
 use Rattle.motor_core.specs.declared.name.Name.{Name}
 use Rattle.models.specs.Display as Spec
-use Rattle.models.specs.Listing.{held}
+use Rattle.models.specs.Counted.{held}
 use Rattle.models.proofs.Lists.{sixteen-names, held-next, held-end}
 use Rattle.models.proofs.display.among.Statement.{statement}
 use Rattle.models.proofs.display.among.Tie as tie

@@ -8,7 +8,7 @@ use borrow.Author.Needs.{needs}
 use lib.ListN.{length, take, getD}
 use Rattle.motor_core.specs.declared.name.Name.{Name}
 use Rattle.models.specs.Display as Spec
-use Rattle.models.specs.Listing.{names-of}
+use Rattle.models.specs.Counted.{names-of}
 use Rattle.models.proofs.Lists.{sixteen-names, take-min}
 use Rattle.models.proofs.Shown.{held-again, held-count, with-length, display-next}
 use Rattle.models.proofs.display.display_models.Statement.{statement}

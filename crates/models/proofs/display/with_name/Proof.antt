@@ -3,7 +3,7 @@ use mathlib.Core.Path.{sym, ap, _∙_}
 use mathlib.Core.Bool.{Bool, cond}
 use mathlib.Core.List.{[], _∷_, _++_}
 use Rattle.models.specs.Display as Spec
-use Rattle.models.specs.Listing.{held, names-of}
+use Rattle.models.specs.Counted.{held, names-of}
 use Rattle.models.proofs.Lists.{holds-next, holds-all}
 use Rattle.models.proofs.Shown.{holds-held}
 use borrow.Author.Needs.{needs}

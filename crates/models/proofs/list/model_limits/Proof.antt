@@ -8,7 +8,7 @@ use borrow.Author.Needs.{needs}
 use lib.ListN.{drop, getD}
 use Rattle.text.specs.Text.{same}
 use Rattle.motor_core.specs.Name.{spelling}
-use Rattle.models.specs.Listing.{models-of}
+use Rattle.models.specs.Counted.{models-of}
 use Rattle.models.specs.Models.{limits-by-name}
 use Rattle.models.specs.declared.list.MotorModelSpec.{MotorModelSpec}
 use Rattle.models.specs.declared.list.ModelLimits.the-variants.{Limits}

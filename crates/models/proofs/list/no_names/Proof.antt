@@ -2,7 +2,7 @@
 use mathlib.Core.Path.{refl}
 use Rattle.text.specs.Ascii.{ascii}
 use Rattle.motor_core.specs.Name.{name-of}
-use Rattle.models.specs.Listing.{names-of}
+use Rattle.models.specs.Counted.{names-of}
 use Rattle.models.proofs.list.no_names.Statement.{statement}
 use Rattle.models.proofs.list.no_names.Tie as tie
 

@@ -1,4 +1,4 @@
--- Lists of a fixed length with a count, and the answer that is such a list or a refusal. Definitions only.
+-- Lists of sixteen places with a count. Definitions only.
 use Prim.Native.Nat.{_-_}
 use mathlib.Core.List.{List, _++_}
 use lib.ListN.{length, replicate, take}
