@@ -379,3 +379,41 @@ fn random_scripts_are_answered_alike_when_run() {
     }
     assert!(random::families("stateless,nothing").is_err());
 }
+
+#[test]
+fn bench_cases_of_the_model_list() {
+    use motor_vendor_damiao::motor::{display_models, model_limits, suggest_models_by_limits};
+    let printed = include_str!("../../crates/bench_cases/stdout");
+    let limits = |name: &str| match model_limits(name) {
+        Some((p, v, t)) => format!(
+            "limits of {name} {:08x} {:08x} {:08x}",
+            p.to_bits(),
+            v.to_bits(),
+            t.to_bits()
+        ),
+        None => format!("limits of {name} refused 12"),
+    };
+    let far = [0xC692A844, 0x46A12838, 0xC7276C48].map(f32::from_bits);
+    for line in [
+        format!(
+            "nearest three to 12.5, 30, 10: {}",
+            suggest_models_by_limits(12.5, 30.0, 10.0, 3).join(" ")
+        ),
+        format!(
+            "nearest ten to C692A844, 46A12838, C7276C48: {}",
+            suggest_models_by_limits(far[0], far[1], far[2], 10).join(" ")
+        ),
+        format!(
+            "nearest to 12.5, 20, 28, as they are shown: {}",
+            display_models(&suggest_models_by_limits(12.5, 20.0, 28.0, 16)).join(" ")
+        ),
+        format!(
+            "4340X 4340_v20 4340X are shown as: {}",
+            display_models(&["4340X", "4340_v20", "4340X"]).join(" ")
+        ),
+        limits("6248P"),
+        limits("6248"),
+    ] {
+        assert!(printed.lines().any(|printed| printed == line), "{line}");
+    }
+}

@@ -2,9 +2,13 @@
 use float::F32Bits;
 use frame::Command;
 use libc::STDOUT_FILENO;
+use models::display::display_models;
 use models::list::Maxima;
+use models::list::ModelLimits;
 use models::list::Names;
 use models::list::damiao_models;
+use models::list::model_limits;
+use models::list::no_names;
 use models::list::places;
 use motor_core::name::Name;
 use received::feedback::Decoded;
@@ -76,6 +80,68 @@ fn nearest(name: &[u8], query: Maxima, count: usize) {
     text(b"\n");
 }
 
+// All models as they are shown.
+fn shown() {
+    let all = suggest_models_by_limits(
+        damiao_models(),
+        Maxima {
+            p_max: 12.5,
+            v_max: 20.0,
+            t_max: 28.0,
+        },
+        16,
+    );
+    let names = all.names;
+    text(b"nearest to 12.5, 20, 28, as they are shown:");
+    words(display_models(names));
+    text(b"\n");
+}
+
+// One name twice, under which two models are shown.
+fn shown_once() {
+    let mut names = no_names();
+    names.names[0] = Name {
+        bytes: *b"4340X          ",
+        len: 5,
+    };
+    names.names[1] = Name {
+        bytes: *b"4340_v20       ",
+        len: 8,
+    };
+    names.names[2] = Name {
+        bytes: *b"4340X          ",
+        len: 5,
+    };
+    names.count = 3;
+    text(b"4340X 4340_v20 4340X are shown as:");
+    words(display_models(names));
+    text(b"\n");
+}
+
+// A model's maxima by its name, or the refusal.
+fn limits(name: &[u8]) {
+    text(b"limits of ");
+    text(name);
+    let found = model_limits(damiao_models(), name);
+    match found {
+        ModelLimits::Limits(maxima) => {
+            float_bits(maxima.p_max);
+            float_bits(maxima.v_max);
+            float_bits(maxima.t_max);
+        }
+        ModelLimits::Refused(n) => {
+            text(b" refused ");
+            io::print_decimal(STDOUT_FILENO, n as u64);
+        }
+    }
+    text(b"\n");
+}
+
+fn float_bits(x: f32) {
+    text(b" ");
+    io::print_hex(STDOUT_FILENO, bits(x), 8);
+}
+
 fn main() {
     // Encoding a decoded code does not always give that code.
     let decoded = position(F32Bits(0x4148_0000), 0x00, 0x01);
@@ -114,4 +180,8 @@ fn main() {
         },
         10,
     );
+    shown();
+    shown_once();
+    limits(b"6248P");
+    limits(b"6248");
 }
