@@ -3,7 +3,9 @@ use mathlib.Core.Path.{refl}
 use lib.Ieee.{round, div, ofInt, neg, le, sub, mul, add, toUnsigned}
 use Rattle.float.specs.Float.{clip}
 use Rattle.motor_core.specs.Model.{limits-of, limit-accepted}
-use Rattle.matching.specs.Matching.{queryable, query-accepted, magnitude, within, matches, keep, matching-names, answer}
+use Rattle.model_query.specs.Query.{queryable, query-accepted, answer}
+use Rattle.models.specs.Counted.{keep}
+use Rattle.matching.specs.Matching.{magnitude, within, matches, matching-names}
 use Rattle.models.specs.Models.{damiao-models}
 use Rattle.registers.specs.Registers.{registers, elem, data-type-of}
 use Rattle.registers.specs.Value.{value-of}

@@ -5,7 +5,8 @@ use mathlib.Core.List.{List, [], _∷_}
 use lib.Ieee.{Float, nan, binary32, neg, div}
 use Rattle.motor_core.specs.Model.{from-maxima}
 use Rattle.motor_core.specs.Name.{name-of}
-use Rattle.matching.specs.Matching.{listed, match-models}
+use Rattle.model_query.specs.Query.{listed}
+use Rattle.matching.specs.Matching.{match-models}
 use Rattle.models.specs.Models.{damiao-models, list-of}
 use Rattle.models.specs.declared.list.Maxima.{Maxima}
 use Rattle.registers.specs.declared.RegisterValue.the-variants.{UInt32}

@@ -2,9 +2,9 @@
 use crate::commands::put_refused;
 use crate::fields::real;
 use crate::reports::put_name;
-use matching::Listing;
-use matching::Outcome;
 use matching::match_models_by_limits;
+use model_query::Listing;
+use model_query::Outcome;
 use models::list::Maxima;
 use models::list::Names;
 use models::list::damiao_models;

@@ -6,7 +6,7 @@ use mathlib.Core.List.{List, [], _∷_, _++_}
 use native.Mathlib.Numerals.{add-one}
 use lib.ListN.{length, take, getD}
 use lib.Seq.{take-suc}
-use Rattle.matching.specs.Matching.{keep}
+use Rattle.models.specs.Counted.{keep}
 
 module _ {A : Type 0} (test : A → Bool) where
   keep-append : (l r : List A) → keep test (l ++ r) ≡ keep test l ++ keep test r

@@ -1,4 +1,2 @@
-pub mod Answers
 pub mod Kept
 pub mod Magnitude
-pub mod Tests

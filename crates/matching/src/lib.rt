@@ -2,48 +2,16 @@
 ghost use mathlib.Core.Path.{_≡_};
 ghost use Rattle.models.specs.Counted.{models-of, names-of};
 ghost use Rattle.matching.specs.Matching as Spec;
+use model_query::Listing;
+use model_query::Outcome;
+use model_query::accepts_query;
+use model_query::refused;
 use models::list::Maxima;
 use models::list::ModelList;
 use models::list::MotorModelSpec;
 use models::list::Names;
 use models::list::no_names;
 use models::list::places;
-use motor_core::error::QUERY;
-
-pub enum Outcome {
-    Listed,
-    Refused(u8),
-}
-
-// A refusal has no names beside it.
-pub struct Listing {
-    pub outcome: Outcome,
-    pub names: Names,
-}
-
-// Whether a float is finite and within ±65,536.
-fn queryable(x: f32) -> bool
-    ensures { λ r. ⌜ r ≡ Spec.queryable x ⌝ }
-{
-    x >= -65536.0 && x <= 65536.0
-}
-
-// Whether all three are.
-pub fn accepts_query(query: Maxima) -> bool
-    ensures { λ r. ⌜ r ≡ Spec.query-accepted query ⌝ }
-{
-    queryable(query.p_max) && queryable(query.v_max) && queryable(query.t_max)
-}
-
-// The answer to a query that is not taken.
-pub fn refused() -> Listing
-    ensures { λ r. ⌜ r ≡ Spec.refused ⌝ }
-{
-    Listing {
-        outcome: Outcome::Refused(QUERY),
-        names: no_names(),
-    }
-}
 
 // Whether the two are no further apart than the tolerance.
 fn within(tol: f32, x: f32, y: f32) -> bool

@@ -6,7 +6,7 @@ use lib.Ieee.{Float}
 use Rattle.models.specs.declared.list.Maxima.{Maxima}
 use Rattle.models.specs.declared.list.ModelList.{ModelList}
 use Rattle.models.specs.declared.list.Names.{Names}
-use Rattle.matching.specs.declared.Listing.{Listing}
+use Rattle.model_query.specs.declared.Listing.{Listing}
 
 -- of matching, where x is the tolerance, and of suggesting, where it is the count
 pub same-query : {A : Type 0} (f : ModelList → Maxima → A → Listing) (list : ModelList) (query query₂ : Maxima) (x : A) (listing : Listing)

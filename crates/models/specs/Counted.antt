@@ -1,6 +1,7 @@
--- Lists of sixteen places with a count. Definitions only.
+-- Lists of sixteen places with a count, and parts of lists. Definitions only.
 use Prim.Native.Nat.{_-_}
-use mathlib.Core.List.{List, _++_}
+use mathlib.Core.Bool.{Bool, cond}
+use mathlib.Core.List.{List, [], _∷_, _++_, map}
 use lib.ListN.{length, replicate, take}
 use Rattle.motor_core.specs.Name.{name-of}
 use Rattle.motor_core.specs.declared.name.Name.{Name}
@@ -18,3 +19,11 @@ held names = take (names .count) (names .names)
 -- at most 16 names, the places after them empty
 unfoldable pub names-of : List Name → Names
 names-of names = record { names = names ++ replicate (16 - length names) (name-of ""); count = length names }
+
+-- the elements that pass a test, in their order
+unfoldable pub keep : {A : Type 0} → (A → Bool) → List A → List A
+keep test [] = []
+keep test (x ∷ rest) = cond (test x) (x ∷ keep test rest) (keep test rest)
+
+abbrev pub model-names : List MotorModelSpec → List Name
+model-names specs = map (λ (spec : MotorModelSpec). spec .model) specs

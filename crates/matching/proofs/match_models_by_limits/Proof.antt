@@ -3,8 +3,8 @@ use mathlib.Core.Path.{_∙_}
 use borrow.Author.Needs.{needs}
 use Rattle.models.specs.Counted.{models-of}
 use Rattle.matching.specs.Matching.{matching-names}
-use Rattle.matching.specs.declared.Outcome.the-variants.{Listed}
-use Rattle.matching.proofs.Answers.{is-refused, is-listed}
+use Rattle.model_query.specs.declared.Outcome.the-variants.{Listed}
+use Rattle.model_query.proofs.Answers.{is-refused, is-listed}
 use Rattle.matching.proofs.match_models_by_limits.Statement.{statement}
 use Rattle.matching.proofs.match_models_by_limits.Tie as tie
 

@@ -3,7 +3,7 @@ use mathlib.Core.Path.{_≡_, _∙_}
 use mathlib.Core.Bool.{_&&_}
 use mathlib.Core.Logic.{⊎-elim}
 use Rattle.matching.specs.Matching as Spec
-use Rattle.matching.proofs.Tests.{both, neither}
+use Rattle.model_query.proofs.Tests.{both, neither}
 use borrow.Author.Needs.{needs}
 use Rattle.matching.proofs.matches.Statement.{statement}
 use Rattle.matching.proofs.matches.Tie as tie

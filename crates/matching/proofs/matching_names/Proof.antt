@@ -10,6 +10,7 @@ use borrow.Author.Needs.{needs}
 use lib.Ieee.{Float}
 use lib.ListN.{length, take, getD}
 use Rattle.motor_core.specs.declared.name.Name.{Name}
+use Rattle.models.specs.Counted.{model-names, keep}
 use Rattle.matching.specs.Matching as Spec
 use Rattle.models.specs.declared.list.Maxima.{Maxima}
 use Rattle.models.specs.declared.list.MotorModelSpec.{MotorModelSpec}
@@ -30,13 +31,13 @@ abbrev μ-loop : tie.MeasureT-loop
 module _ (specs : List MotorModelSpec) (query : Maxima) (tol : Float) (i : ℕ) (d : MotorModelSpec) (within : i < length specs) where
   with-next : (b : Bool) → Spec.matches query tol (getD specs i d) ≡ b
       → Spec.matching-names (take (i + 1) specs) query tol ≡ Spec.matching-names (take i specs) query tol ++ cond b (getD specs i d .model ∷ []) []
-  unfolding Spec.matching-names Spec.keep
+  unfolding Spec.matching-names keep
   with-next b h =
-      ap Spec.model-names (keep-next (Spec.matches query tol) specs i d within)
-      ∙ map-append (λ (spec : MotorModelSpec). spec .model) (Spec.keep (Spec.matches query tol) (take i specs)) _
-      ∙ ap (λ (l : List Name). Spec.matching-names (take i specs) query tol ++ l) (ap (λ (t : Bool). Spec.model-names (cond t (getD specs i d ∷ []) [])) h ∙ one b)
+      ap model-names (keep-next (Spec.matches query tol) specs i d within)
+      ∙ map-append (λ (spec : MotorModelSpec). spec .model) (keep (Spec.matches query tol) (take i specs)) _
+      ∙ ap (λ (l : List Name). Spec.matching-names (take i specs) query tol ++ l) (ap (λ (t : Bool). model-names (cond t (getD specs i d ∷ []) [])) h ∙ one b)
     where
-      one : (b : Bool) → Spec.model-names (cond b (getD specs i d ∷ []) []) ≡ cond b (getD specs i d .model ∷ []) []
+      one : (b : Bool) → model-names (cond b (getD specs i d ∷ []) []) ≡ cond b (getD specs i d .model ∷ []) []
       one true = refl
       one false = refl
 
@@ -47,7 +48,7 @@ places-requires : tie.Need-places-requires Inv-loop μ-loop
 places-requires c κs = search needs
 
 loop-holds : tie.Need-loop-holds Inv-loop μ-loop
-unfolding Spec.matching-names Spec.keep
+unfolding Spec.matching-names keep
 loop-holds c = (search needs, search needs, record { count = refl; places = ap (λ (names : Names). names .names) (c .before .no-names .ensures) })
 
 mul-spec : tie.Need-mul-spec Inv-loop μ-loop

@@ -3,7 +3,7 @@ use mathlib.Core.Path.{refl, _∙_}
 use lib.Ieee.{sub, binary32}
 use Rattle.matching.specs.Matching as Spec
 use Rattle.matching.proofs.Magnitude.{magnitude-le}
-use Rattle.matching.proofs.Tests.{both, neither}
+use Rattle.model_query.proofs.Tests.{both, neither}
 use Rattle.matching.proofs.within.Statement.{statement}
 use Rattle.matching.proofs.within.Tie as tie
 

@@ -4,7 +4,7 @@ use mathlib.Core.Bool.{Bool, true, false, not, cond}
 use mathlib.Core.List.{List}
 use borrow.Author.Tests.{not-true, not-false}
 use Rattle.motor_core.specs.declared.name.Name.{Name}
-use Rattle.matching.specs.Matching.{query-accepted, listed, refused, answer}
+use Rattle.model_query.specs.Query.{query-accepted, listed, refused, answer}
 use Rattle.models.specs.declared.list.Maxima.{Maxima}
 
 module _ (query : Maxima) (names : List Name) (accepts : Bool) (e : accepts ≡ query-accepted query) where

@@ -1,11 +1,11 @@
--- `matching::queryable` meets its contract. Assumes nothing.
+-- `model_query::queryable` meets its contract. Assumes nothing.
 use mathlib.Core.Path.{sym, ap, _∙_}
 use mathlib.Core.Bool.{Bool, _&&_, false}
 use lib.IntN.{pos}
 use lib.Ieee.{fin, le, ofBits, neg}
-use Rattle.matching.specs.Matching as Spec
-use Rattle.matching.proofs.queryable.Statement.{statement}
-use Rattle.matching.proofs.queryable.Tie as tie
+use Rattle.model_query.specs.Query as Spec
+use Rattle.model_query.proofs.queryable.Statement.{statement}
+use Rattle.model_query.proofs.queryable.Tie as tie
 
 returns : tie.Need-returns
 unfolding Spec.queryable ofBits neg

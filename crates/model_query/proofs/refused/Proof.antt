@@ -1,8 +1,8 @@
--- `matching::refused` meets its contract. Assumes nothing.
-use Rattle.matching.specs.declared.Outcome.the-variants.{Refused}
+-- `model_query::refused` meets its contract. Assumes nothing.
+use Rattle.model_query.specs.declared.Outcome.the-variants.{Refused}
 use borrow.Author.Needs.{needs}
-use Rattle.matching.proofs.refused.Statement.{statement}
-use Rattle.matching.proofs.refused.Tie as tie
+use Rattle.model_query.proofs.refused.Statement.{statement}
+use Rattle.model_query.proofs.refused.Tie as tie
 
 no-names-requires : tie.Need-no-names-requires
 no-names-requires c κs = search needs

@@ -1,12 +1,12 @@
--- `matching::accepts_query` meets its contract. Assumes nothing.
+-- `model_query::accepts_query` meets its contract. Assumes nothing.
 use mathlib.Core.Path.{_≡_, _∙_}
 use mathlib.Core.Bool.{_&&_}
 use mathlib.Core.Logic.{⊎-elim}
-use Rattle.matching.specs.Matching as Spec
-use Rattle.matching.proofs.Tests.{both, neither}
+use Rattle.model_query.specs.Query as Spec
+use Rattle.model_query.proofs.Tests.{both, neither}
 use borrow.Author.Needs.{needs}
-use Rattle.matching.proofs.accepts_query.Statement.{statement}
-use Rattle.matching.proofs.accepts_query.Tie as tie
+use Rattle.model_query.proofs.accepts_query.Statement.{statement}
+use Rattle.model_query.proofs.accepts_query.Tie as tie
 
 queryable-requires : tie.Need-queryable-requires
 queryable-requires c κs = search needs

@@ -1,0 +1,42 @@
+// A query of the model list: whether it is taken, and the answer to it.
+ghost use mathlib.Core.Path.{_≡_};
+ghost use Rattle.model_query.specs.Query as Spec;
+use models::list::Maxima;
+use models::list::Names;
+use models::list::no_names;
+use motor_core::error::QUERY;
+
+pub enum Outcome {
+    Listed,
+    Refused(u8),
+}
+
+// A refusal has no names beside it.
+pub struct Listing {
+    pub outcome: Outcome,
+    pub names: Names,
+}
+
+// Whether a float is finite and within ±65,536.
+fn queryable(x: f32) -> bool
+    ensures { λ r. ⌜ r ≡ Spec.queryable x ⌝ }
+{
+    x >= -65536.0 && x <= 65536.0
+}
+
+// Whether all three are.
+pub fn accepts_query(query: Maxima) -> bool
+    ensures { λ r. ⌜ r ≡ Spec.query-accepted query ⌝ }
+{
+    queryable(query.p_max) && queryable(query.v_max) && queryable(query.t_max)
+}
+
+// The answer to a query that is not taken.
+pub fn refused() -> Listing
+    ensures { λ r. ⌜ r ≡ Spec.refused ⌝ }
+{
+    Listing {
+        outcome: Outcome::Refused(QUERY),
+        names: no_names(),
+    }
+}
