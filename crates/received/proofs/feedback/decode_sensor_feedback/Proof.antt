@@ -1,17 +1,14 @@
 -- `received::feedback::decode_sensor_feedback` meets its contract. Assumes nothing.
 use native.Mathlib.Omega.{arith}
-use mathlib.Core.Path.{ap, _∙_}
+use mathlib.Core.Path.{ap, _∙_, _≡_}
 use mathlib.Core.List.{List}
-use Prim.Native.Nat.{_%_}
+use Prim.Native.Nat.{_%_, ℕ, _+_, _*_, _/_}
 use lib.Ieee.{Float}
 use Rattle.motor_core.specs.declared.model.PvTLimits.{PvTLimits}
-use Rattle.received.specs.Received.{d}
+use Rattle.received.specs.Received.{d, feedback-of}
 use Rattle.float.specs.Arithmetic.{float}
 use Rattle.frame.specs.Codes.{uint-to-float}
 use Rattle.received.specs.declared.feedback.SensorFeedback.{SensorFeedback}
-use mathlib.Core.Path.{_≡_}
-use Prim.Native.Nat.{ℕ, _+_, _*_, _/_}
-use Rattle.received.specs.Received.{feedback-of}
 use borrow.Author.Needs.{needs}
 use Rattle.received.proofs.feedback.decode_sensor_feedback.Statement.{statement}
 use Rattle.received.proofs.feedback.decode_sensor_feedback.Tie as tie
