@@ -9,6 +9,14 @@ limit = 1
 abbrev pub motor-id : ℕ
 motor-id = 2
 
+-- readings of the clock that are not taken
+abbrev pub reading : ℕ
+reading = 3
+
+-- register numbers that no register has
+abbrev pub register : ℕ
+register = 4
+
 -- queries that are not taken
 abbrev pub query : ℕ
 query = 11

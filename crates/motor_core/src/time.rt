@@ -1,4 +1,14 @@
 // A reading of the clock and a length of time, told apart as in Rust. Both count nanoseconds.
+ghost use mathlib.Core.Path.{_≡_};
+ghost use Rattle.motor_core.specs.Time.{reading-accepted};
+
 pub struct Instant(pub u64);
 
 pub struct Duration(pub u64);
+
+// Whether a reading may follow the last: it does not go back, and is at most 2^62.
+pub fn accepts_reading(last: Instant, reading: Instant) -> bool
+    ensures { λ r. ⌜ r ≡ reading-accepted last reading ⌝ }
+{
+    last.0 <= reading.0 && reading.0 <= 0x4000_0000_0000_0000
+}

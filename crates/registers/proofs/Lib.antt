@@ -1,3 +1,4 @@
+pub mod Below
 pub mod Table
 pub mod Codes
 pub mod Values

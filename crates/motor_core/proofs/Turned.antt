@@ -1,0 +1,11 @@
+-- A test that turns back, `if !t { return a }` with b after it, is `cond t b a`. Assumes nothing.
+use mathlib.Core.Path.{_≡_, sym, ap, _∙_}
+use mathlib.Core.Bool.{Bool, true, false, not, cond}
+use borrow.Author.Tests.{not-true, not-false}
+
+module _ {A : Type 0} (t test : Bool) (a b : A) (e : t ≡ test) where
+  pub turned : not t ≡ true → a ≡ cond test b a
+  turned h = ap (λ (s : Bool). cond s b a) (sym (not-true t h) ∙ e)
+
+  pub passed : not t ≡ false → b ≡ cond test b a
+  passed h = ap (λ (s : Bool). cond s b a) (sym (not-false t h) ∙ e)

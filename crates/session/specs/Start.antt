@@ -1,0 +1,47 @@
+-- A session's start. Definitions only.
+use Prim.Native.Nat.{ℕ}
+use mathlib.Core.Bool.{cond}
+use mathlib.Core.List.{List}
+use Rattle.float.specs.Arithmetic.{float}
+use Rattle.motor_core.specs.Bus.{motor-id-accepted}
+use Rattle.motor_core.specs.Error as Error
+use Rattle.motor_core.specs.Model.{limits-of}
+use Rattle.motor_core.specs.declared.model.PvTLimits.{PvTLimits}
+use Rattle.motor_core.specs.declared.model.LimitCheck.{LimitCheck}
+use Rattle.motor_core.specs.declared.model.LimitCheck.the-variants as Check
+use Rattle.models.specs.Models.{limits-by-name}
+use Rattle.models.specs.declared.list.Maxima.{Maxima}
+use Rattle.models.specs.declared.list.MotorModelSpec.{MotorModelSpec}
+use Rattle.models.specs.declared.list.ModelLimits.{ModelLimits}
+use Rattle.models.specs.declared.list.ModelLimits.the-variants as Named
+use Rattle.session.specs.Session.{fresh}
+use Rattle.session.specs.declared.Session.{Session}
+use Rattle.session.specs.declared.start.Outcome.the-variants as Outcome
+use Rattle.session.specs.declared.start.Started.{Started}
+
+-- the placeholder beside a refusal
+abbrev pub no-limits : PvTLimits
+no-limits = record { «p_min» = float 0; «p_max» = float 0; «v_min» = float 0; «v_max» = float 0; «t_min» = float 0; «t_max» = float 0 }
+
+abbrev pub no-session : Session
+no-session = fresh 0 0 no-limits
+
+abbrev pub refused : ℕ → Started
+refused number = record { outcome = Outcome.Refused number; session = no-session }
+
+-- 'Turned back', start: the limits are tested first, 1, then the motor id, 2
+abbrev pub by-limits : LimitCheck → ℕ → ℕ → Started
+by-limits (Check.Refused number) motor feedback = refused number
+by-limits (Check.Accepted limits) motor feedback =
+    cond (motor-id-accepted motor) (record { outcome = Outcome.Started; session = fresh motor feedback limits }) (refused Error.motor-id)
+
+unfoldable pub from-limits : ℕ → ℕ → Maxima → Started
+from-limits motor feedback m = by-limits (limits-of (m .«p_max») (m .«v_max») (m .«t_max»)) motor feedback
+
+-- by a model's name: 12 where the list lacks it, else as from its limits
+abbrev pub by-name : ModelLimits → ℕ → ℕ → Started
+by-name (Named.Refused number) motor feedback = refused number
+by-name (Named.Limits maxima) motor feedback = from-limits motor feedback maxima
+
+unfoldable pub from-model : ℕ → ℕ → List MotorModelSpec → List ℕ → Started
+from-model motor feedback models name = by-name (limits-by-name models name) motor feedback

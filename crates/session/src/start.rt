@@ -1,0 +1,113 @@
+// A session's start, from three limits or from a model's name.
+ghost use mathlib.Core.Path.{_≡_};
+ghost use Rattle.models.specs.Counted.{models-of};
+ghost use Rattle.session.specs.Session.{fresh};
+ghost use Rattle.session.specs.Start as Spec;
+use crate::Heard;
+use crate::Run;
+use crate::Session;
+use crate::cache::Entry;
+use crate::cache::Slot;
+use feedback::FeedbackCache;
+use feedback::Latest;
+use models::list::Maxima;
+use models::list::ModelLimits;
+use models::list::ModelList;
+use models::list::model_limits;
+use motor_core::bus::accepts_motor_id;
+use motor_core::error::MOTOR_ID;
+use motor_core::model::LimitCheck;
+use motor_core::model::PvTLimits;
+use motor_core::model::from_maxima;
+use motor_core::time::Instant;
+
+pub enum Outcome {
+    Started,
+    Refused(u8),
+}
+
+// Beside a refusal the session is `no_session()`.
+pub struct Started {
+    pub outcome: Outcome,
+    pub session: Session,
+}
+
+// Empty caches, no record, number 0, last reading 0, no run.
+pub fn fresh(motor_id: u16, feedback_id: u16, limits: PvTLimits) -> Session
+    ensures { λ r. ⌜ r ≡ fresh «motor_id» «feedback_id» limits ⌝ }
+{
+    Session {
+        heard: Heard {
+            motor_id,
+            feedback_id,
+            limits,
+            feedback: FeedbackCache {
+                latest: Latest::None,
+                sequence: 0,
+            },
+            last: Instant(0),
+        },
+        replies: [Slot {
+            entry: Entry::Empty,
+        }; 82],
+        acks: [Slot {
+            entry: Entry::Empty,
+        }; 82],
+        run: Run::None,
+    }
+}
+
+// What stands where there is no session: a fresh one with ids and limits of 0.
+pub fn no_session() -> Session
+    ensures { λ r. ⌜ r ≡ Spec.no-session ⌝ }
+{
+    fresh(
+        0,
+        0,
+        PvTLimits {
+            p_min: 0.0,
+            p_max: 0.0,
+            v_min: 0.0,
+            v_max: 0.0,
+            t_min: 0.0,
+            t_max: 0.0,
+        },
+    )
+}
+
+fn refused(number: u8) -> Started
+    ensures { λ r. ⌜ r ≡ Spec.refused number ⌝ }
+{
+    Started {
+        outcome: Outcome::Refused(number),
+        session: no_session(),
+    }
+}
+
+pub fn from_limits(motor_id: u16, feedback_id: u16, maxima: Maxima) -> Started
+    ensures { λ r. ⌜ r ≡ Spec.from-limits «motor_id» «feedback_id» maxima ⌝ }
+{
+    let made = from_maxima(maxima.p_max, maxima.v_max, maxima.t_max);
+    match made {
+        LimitCheck::Refused(number) => refused(number),
+        LimitCheck::Accepted(limits) => {
+            if !accepts_motor_id(motor_id) {
+                return refused(MOTOR_ID);
+            }
+            Started {
+                outcome: Outcome::Started,
+                session: fresh(motor_id, feedback_id, limits),
+            }
+        }
+    }
+}
+
+pub fn from_model(motor_id: u16, feedback_id: u16, list: ModelList, name: &[u8]) -> Started
+    ensures { λ r. ⌜ r ≡ Spec.from-model «motor_id» «feedback_id» (models-of list) (now (name .entry)) ⌝ }
+{
+    let found = model_limits(list, name);
+    match found {
+        ModelLimits::Refused(number) => refused(number),
+        ModelLimits::Limits(maxima) => from_limits(motor_id, feedback_id, maxima),
+    }
+}

@@ -1,0 +1,78 @@
+-- `taking::taken_step` meets its contract. Assumes nothing.
+use mathlib.Core.Path.{sym, ap, _∙_}
+use Rattle.received.specs.declared.feedback.Received.{Received}
+use Rattle.feedback.specs.declared.MotorFeedbackState.{MotorFeedbackState}
+use Rattle.feedback.specs.declared.FeedbackCache.{FeedbackCache}
+use Rattle.feedback.specs.Feedback.{update}
+use Rattle.session.specs.Cache.{held}
+use Rattle.session.specs.declared.Heard.{Heard}
+use Rattle.taking.specs.Taking as Spec
+use Rattle.taking.specs.declared.Outcome.the-variants.{Taken}
+use Rattle.taking.specs.declared.Step.{Step}
+use borrow.Author.Needs.{needs}
+use Rattle.taking.proofs.taken_step.Statement.{statement}
+use Rattle.taking.proofs.taken_step.Tie as tie
+
+enum-known-received : tie.Need-enum-known-received
+enum-known-received c = search needs
+
+heard-at-requires : tie.Need-heard-at-requires
+heard-at-requires c κs = search needs
+
+enum-known-received-2 : tie.Need-enum-known-received-2
+enum-known-received-2 c = search needs
+
+heard-at-requires-2 : tie.Need-heard-at-requires-2
+heard-at-requires-2 c κs = search needs
+
+enum-known-received-3 : tie.Need-enum-known-received-3
+enum-known-received-3 c = search needs
+
+state-of-requires : tie.Need-state-of-requires
+state-of-requires c κs = search needs
+
+update-requires : tie.Need-update-requires
+update-requires c κs = search needs
+
+heard-at-requires-3 : tie.Need-heard-at-requires-3
+heard-at-requires-3 c κs = search needs
+
+returns : tie.Need-returns
+returns c =
+    let told = c .before .before in
+    let a = told .before .before .before .args in
+    ap {B = Step} (λ (h : Heard). record { outcome = Taken; heard = h; reply = held (told .received .given .0 .1 .0) (a .reading); ack = a .ack }) (c .heard-at .ensures)
+    ∙ sym (ap (λ (r : Received). Spec.taken-step (a .heard) (a .reply) (a .ack) (a .arbitration-id) r (a .reading)) (told .received .given .1))
+
+returns-2 : tie.Need-returns-2
+returns-2 c =
+    let told = c .before .before in
+    let a = told .before .before .before .args in
+    ap {B = Step} (λ (h : Heard). record { outcome = Taken; heard = h; reply = a .reply; ack = held (told .received2 .given .0 .1 .0) (a .reading) }) (c .heard-at2 .ensures)
+    ∙ sym (ap (λ (r : Received). Spec.taken-step (a .heard) (a .reply) (a .ack) (a .arbitration-id) r (a .reading)) (told .received2 .given .1))
+
+returns-3 : tie.Need-returns-3
+returns-3 c =
+    let told = c .before .before .before .before in
+    let a = told .before .before .before .args in
+    ap {B = Step} (λ (h : Heard). record { outcome = Taken; heard = h; reply = a .reply; ack = a .ack })
+    (c .heard-at3 .ensures
+    ∙ ap (λ (f : FeedbackCache). Spec.heard-at (a .heard) f (a .reading))
+    (c .before .update .ensures ∙ ap (λ (s : MotorFeedbackState). update (a .heard .feedback) s (a .reading)) (c .before .before .state-of .ensures)))
+    ∙ sym (ap (λ (r : Received). Spec.taken-step (a .heard) (a .reply) (a .ack) (a .arbitration-id) r (a .reading)) (told .received3 .given .1))
+
+pub taken-step-spec : {M : Type 1} → statement M
+taken-step-spec =
+    tie.close
+    (tie.spec
+    enum-known-received
+    heard-at-requires
+    enum-known-received-2
+    heard-at-requires-2
+    enum-known-received-3
+    state-of-requires
+    update-requires
+    heard-at-requires-3
+    returns
+    returns-2
+    returns-3)

@@ -1,0 +1,101 @@
+-- Taking a frame: what it does to each part of a session. Definitions only.
+use Prim.Native.Nat.{ℕ}
+use mathlib.Core.Bool.{cond}
+use mathlib.Core.List.{List}
+use lib.Dec.{ltb}
+use lib.ListN.{set}
+use Rattle.motor_core.specs.Error as Error
+use Rattle.motor_core.specs.Time.{reading-accepted}
+use Rattle.motor_core.specs.declared.bus.CanFrame.{CanFrame}
+use Rattle.motor_core.specs.declared.time.Instant.{Instant}
+use Rattle.received.specs.Received.{received}
+use Rattle.received.specs.declared.feedback.Received.{Received}
+use Rattle.received.specs.declared.feedback.Received.the-variants.{Reply, Ack, Feedback}
+use Rattle.feedback.specs.Feedback.{state-of, update}
+use Rattle.feedback.specs.declared.FeedbackCache.{FeedbackCache}
+use Rattle.session.specs.Cache.{held}
+use Rattle.session.specs.declared.Heard.{Heard}
+use Rattle.session.specs.declared.Session.{Session}
+use Rattle.session.specs.declared.cache.Slot.{Slot}
+use Rattle.taking.specs.declared.Outcome.{Outcome}
+use Rattle.taking.specs.declared.Outcome.the-variants.{Taken, Refused}
+use Rattle.taking.specs.declared.Step.{Step}
+use Rattle.taking.specs.declared.Taking.{Taking}
+
+-- 'Turned back', a frame: 3 by its reading. Nothing of the frame itself is tested
+abbrev pub frame-outcome : Heard → CanFrame → Instant → Outcome
+frame-outcome heard frame reading = cond (reading-accepted (heard .last) reading) Taken (Refused Error.reading)
+
+-- the reading becomes the last
+abbrev pub heard-at : Heard → FeedbackCache → Instant → Heard
+heard-at h feedback reading = record { «motor_id» = h .«motor_id»; «feedback_id» = h .«feedback_id»; limits = h .limits; feedback = feedback; last = reading }
+
+-- 'The feedback on the screen': a feedback becomes the latest record, with the frame's arbitration id
+abbrev pub feedback-after : FeedbackCache → ℕ → Received → Instant → FeedbackCache
+feedback-after cache id (Feedback f) reading = update cache (state-of id f) reading
+feedback-after cache id (Reply rid value) reading = cache
+feedback-after cache id (Ack rid value) reading = cache
+
+abbrev pub heard-after : Heard → ℕ → Received → Instant → Heard
+heard-after h id received reading = heard-at h (feedback-after (h .feedback) id received reading) reading
+
+-- 'The register answers': a reply goes into its register's slot of the replies, stamped with the frame's reading
+abbrev pub replies-after : List Slot → Received → Instant → List Slot
+replies-after replies (Reply rid value) reading = set replies rid (held value reading)
+replies-after replies (Ack rid value) reading = replies
+replies-after replies (Feedback f) reading = replies
+
+-- and an ack into that of the acks
+abbrev pub acks-after : List Slot → Received → Instant → List Slot
+acks-after acks (Reply rid value) reading = acks
+acks-after acks (Ack rid value) reading = set acks rid (held value reading)
+acks-after acks (Feedback f) reading = acks
+
+-- a session after a frame, by what the frame says; the run is left alone
+abbrev pub session-after : Session → ℕ → Received → Instant → Session
+session-after s id received reading = record {
+  heard = heard-after (s .heard) id received reading;
+  replies = replies-after (s .replies) received reading;
+  acks = acks-after (s .acks) received reading;
+  run = s .run;
+}
+
+-- what the frame says to this session
+abbrev pub says : Heard → CanFrame → Received
+says h frame = received (h .limits) (frame .«data»)
+
+abbrev pub take-by : Outcome → Session → CanFrame → Instant → Session
+take-by Taken s frame reading = session-after s (frame .«arbitration_id») (says (s .heard) frame) reading
+take-by (Refused number) s frame reading = s
+
+-- a frame taken into a session, or turned back with the session as it was
+unfoldable pub take-frame : Session → CanFrame → Instant → Taking
+take-frame s frame reading =
+    let outcome = frame-outcome (s .heard) frame reading in
+    record { outcome = outcome; session = take-by outcome s frame reading }
+
+-- The same on the small parts: the slots are those of one register, which is the frame's if it is of any.
+
+abbrev pub place : ℕ → ℕ
+place rid = cond (ltb rid 82) rid 0
+
+abbrev pub reply-after : Slot → Received → Instant → Slot
+reply-after reply (Reply rid value) reading = held value reading
+reply-after reply (Ack rid value) reading = reply
+reply-after reply (Feedback f) reading = reply
+
+abbrev pub ack-after : Slot → Received → Instant → Slot
+ack-after ack (Reply rid value) reading = ack
+ack-after ack (Ack rid value) reading = held value reading
+ack-after ack (Feedback f) reading = ack
+
+abbrev pub taken-step : Heard → Slot → Slot → ℕ → Received → Instant → Step
+taken-step h reply ack id received reading =
+    record { outcome = Taken; heard = heard-after h id received reading; reply = reply-after reply received reading; ack = ack-after ack received reading }
+
+abbrev pub step-by : Outcome → Heard → Slot → Slot → CanFrame → Instant → Step
+step-by Taken h reply ack frame reading = taken-step h reply ack (frame .«arbitration_id») (says h frame) reading
+step-by (Refused number) h reply ack frame reading = record { outcome = Refused number; heard = h; reply = reply; ack = ack }
+
+unfoldable pub frame-step : Heard → Slot → Slot → CanFrame → Instant → Step
+frame-step h reply ack frame reading = step-by (frame-outcome h frame reading) h reply ack frame reading

@@ -1,0 +1,147 @@
+// Taking a frame into a session. The work is done on the session's small parts and on the two slots
+// of the register that the frame may be of; the entry on a whole session is thin around it.
+ghost use mathlib.Core.Path.{_≡_};
+ghost use Prim.Native.Nat.{_<_};
+ghost use Rattle.received.specs.Received.{d};
+ghost use Rattle.taking.specs.Taking as Spec;
+use feedback::FeedbackCache;
+use feedback::state_of;
+use feedback::update;
+use motor_core::bus::CanFrame;
+use motor_core::error::READING;
+use motor_core::time::Instant;
+use motor_core::time::accepts_reading;
+use received::feedback::Received;
+use received::feedback::read_frame;
+use session::Heard;
+use session::Session;
+use session::cache::Entry;
+use session::cache::Slot;
+
+pub enum Outcome {
+    Taken,
+    Refused(u8),
+}
+
+// The parts after a frame.
+pub struct Step {
+    pub outcome: Outcome,
+    pub heard: Heard,
+    pub reply: Slot,
+    pub ack: Slot,
+}
+
+pub struct Taking {
+    pub outcome: Outcome,
+    pub session: Session,
+}
+
+// The place of the slots of the register in d3. Where no register has that number, any place will
+// do: the frame is feedback, and the slots stay as they are.
+pub fn slot_place(data: [u8; 8]) -> usize
+    ensures { λ r. ⌜ (r ≡ Spec.place (d «data» 3)) × (r < 82) ⌝ }
+{
+    let rid = data[3];
+    if rid < 82 { rid as usize } else { 0 }
+}
+
+fn heard_at(heard: Heard, feedback: FeedbackCache, reading: Instant) -> Heard
+    ensures { λ r. ⌜ r ≡ Spec.heard-at heard feedback reading ⌝ }
+{
+    let limits = heard.limits;
+    Heard {
+        motor_id: heard.motor_id,
+        feedback_id: heard.feedback_id,
+        limits,
+        feedback,
+        last: reading,
+    }
+}
+
+// What a frame that is taken does to the parts, by what it says.
+fn taken_step(
+    heard: Heard,
+    reply: Slot,
+    ack: Slot,
+    arbitration_id: u32,
+    received: Received,
+    reading: Instant,
+) -> Step
+    ensures { λ r. ⌜ r ≡ Spec.taken-step heard reply ack «arbitration_id» received reading ⌝ }
+{
+    let feedback = heard.feedback;
+    match received {
+        Received::Reply(_, value) => Step {
+            outcome: Outcome::Taken,
+            heard: heard_at(heard, feedback, reading),
+            reply: Slot {
+                entry: Entry::Held(value, reading),
+            },
+            ack,
+        },
+        Received::Ack(_, value) => Step {
+            outcome: Outcome::Taken,
+            heard: heard_at(heard, feedback, reading),
+            reply,
+            ack: Slot {
+                entry: Entry::Held(value, reading),
+            },
+        },
+        Received::Feedback(decoded) => Step {
+            outcome: Outcome::Taken,
+            heard: heard_at(
+                heard,
+                update(feedback, state_of(arbitration_id, decoded), reading),
+                reading,
+            ),
+            reply,
+            ack,
+        },
+    }
+}
+
+// Takes a frame, with its reading, into the parts; `reply` and `ack` are the slots at `slot_place`.
+pub fn frame_step(heard: Heard, reply: Slot, ack: Slot, frame: CanFrame, reading: Instant) -> Step
+    ensures { λ r. ⌜ r ≡ Spec.frame-step heard reply ack frame reading ⌝ }
+{
+    let last = heard.last;
+    if !accepts_reading(last, reading) {
+        return Step {
+            outcome: Outcome::Refused(READING),
+            heard,
+            reply,
+            ack,
+        };
+    }
+    let data = frame.data;
+    let limits = heard.limits;
+    taken_step(
+        heard,
+        reply,
+        ack,
+        frame.arbitration_id,
+        read_frame(data, limits),
+        reading,
+    )
+}
+
+// Takes a frame, with its reading, into a session.
+pub fn process_feedback_frame(session: Session, frame: CanFrame, reading: Instant) -> Taking
+    ensures { λ r. ⌜ r ≡ Spec.take-frame session frame reading ⌝ }
+{
+    let mut session = session;
+    let data = frame.data;
+    let place = slot_place(data);
+    let heard = session.heard;
+    let reply = session.replies[place];
+    let ack = session.acks[place];
+    let step = frame_step(heard, reply, ack, frame, reading);
+    let heard_after = step.heard;
+    let reply_after = step.reply;
+    let ack_after = step.ack;
+    session.heard = heard_after;
+    session.replies[place] = reply_after;
+    session.acks[place] = ack_after;
+    let outcome = step.outcome;
+    Taking { outcome, session }
+}
