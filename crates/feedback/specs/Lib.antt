@@ -1,1 +1,2 @@
 pub mod Feedback
+pub mod Marks

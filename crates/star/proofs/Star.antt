@@ -1,14 +1,22 @@
 -- The marked bench cases hold: the checker computes each definition. Assumes nothing.
-use mathlib.Core.Path.{refl}
+use Prim.Native.Nat.{_≤_, _^_, zero-le}
+use mathlib.Core.Path.{_≡_, refl, ap, _∙_}
+use mathlib.Core.Bool.{Bool, _&&_, cond}
+use mathlib.Core.Option.{some}
+use borrow.Author.Tests.{le-leb}
 use lib.Ieee.{round, div, ofInt, neg, le, sub, mul, add, toUnsigned}
 use Rattle.float.specs.Float.{clip}
+use Rattle.motor_core.specs.Error as Error
 use Rattle.motor_core.specs.Model.{limits-of, limit-accepted}
+use Rattle.motor_core.specs.declared.bus.CanFrame.{CanFrame}
+use Rattle.motor_core.specs.declared.time.Instant.{Instant}
 use Rattle.model_query.specs.Query.{queryable, query-accepted, answer}
 use Rattle.models.specs.Counted.{keep}
 use Rattle.matching.specs.Matching.{magnitude, within, matches, matching-names}
 use Rattle.models.specs.Models.{damiao-models}
 use Rattle.registers.specs.Registers.{registers, elem, data-type-of}
 use Rattle.registers.specs.Value.{value-of}
+use Rattle.registers.specs.declared.RegisterValue.the-variants.{UInt32}
 use Rattle.frame.specs.Codes.{float-to-uint, uint-to-float}
 use Rattle.frame.specs.Layout.{packed-onto, little-endian, bytes}
 use Rattle.frame.specs.Command.{frame-for}
@@ -16,7 +24,28 @@ use Rattle.setpoint.specs.Setpoint.{mit-cmd, mit-data, force-pos-data, scaled}
 use Rattle.request.specs.Request.{register-read-data, addressed}
 use Rattle.received.specs.Received.{class, feedback-of, decoded, received, register-value}
 use Rattle.received.specs.Status.{status-name}
-use Rattle.bench_cases.specs.Star.{Star}
+use Rattle.session.specs.Cache.{held, slot-of}
+use Rattle.session.specs.Session.{fresh}
+use Rattle.taking.specs.Effects.{if-taken, slot-with}
+use Rattle.taking.specs.Taking.{frame-outcome, take-frame}
+use Rattle.taking.specs.declared.Outcome.{Outcome}
+use Rattle.taking.specs.declared.Outcome.the-variants.{Taken, Refused}
+use Rattle.taking.proofs.Effects.{reply-after-frame}
+use Rattle.star.specs.Star.{Star, session, on-bus, ten-is-one}
+
+-- a reading after 0
+taken : (frame : CanFrame) (reading : Instant) → reading .0 ≤ 2 ^ 62 → frame-outcome (session .heard) frame reading ≡ Taken
+unfolding fresh
+taken frame reading h = λ i. by-reading (le-leb 0 (reading .0) zero-le i && le-leb (reading .0) (2 ^ 62) h i)
+  where
+    by-reading : Bool → Outcome
+    by-reading accepted = cond accepted Taken (Refused Error.reading)
+
+stored : (reading : Instant) → reading .0 ≤ 2 ^ 62 → slot-of (take-frame session (on-bus ten-is-one) reading .session .replies) 10 ≡ held (UInt32 1) reading
+unfolding fresh registers elem data-type-of value-of class received register-value
+stored reading h =
+    reply-after-frame session (on-bus ten-is-one) reading 10 refl
+    ∙ ap (λ (o : Outcome). slot-with (if-taken o (some (UInt32 1))) reading (slot-of (session .replies) 10)) (taken (on-bus ten-is-one) reading h)
 
 pub star : Star
 unfolding round div ofInt neg le sub mul add toUnsigned clip limits-of limit-accepted registers elem data-type-of value-of float-to-uint uint-to-float packed-onto little-endian bytes mit-cmd mit-data frame-for force-pos-data scaled register-read-data addressed class feedback-of decoded received register-value status-name queryable query-accepted magnitude within matches keep matching-names answer damiao-models
@@ -27,6 +56,7 @@ star = record {
   feedback-sorted = refl;
   feedback-status = refl;
   register-ten = refl;
+  register-ten-stored = stored;
   d1-too-high = refl;
   d3-unknown = refl;
   read-ten = refl;

@@ -1,10 +1,13 @@
 -- Document 01's bench cases that are marked to be proved, as equations of the definitions: model 4310, motor 1. `proofs/Star.antt` has their proof.
-use Prim.Native.Nat.{ℕ}
+use Prim.Native.Nat.{ℕ, _≤_, _^_}
 use mathlib.Core.Path.{_≡_}
+use mathlib.Core.Bool.{false}
 use mathlib.Core.List.{List, [], _∷_}
 use lib.Ieee.{Float, nan, binary32, neg, div}
 use Rattle.motor_core.specs.Model.{from-maxima}
 use Rattle.motor_core.specs.Name.{name-of}
+use Rattle.motor_core.specs.declared.bus.CanFrame.{CanFrame}
+use Rattle.motor_core.specs.declared.time.Instant.{Instant}
 use Rattle.model_query.specs.Query.{listed}
 use Rattle.matching.specs.Matching.{match-models}
 use Rattle.models.specs.Models.{damiao-models, list-of}
@@ -21,6 +24,10 @@ use Rattle.received.specs.declared.feedback.Decoded.the-variants as Decode
 use Rattle.received.specs.declared.feedback.Received.the-variants as Receive
 use Rattle.received.specs.declared.feedback.SensorFeedback.{SensorFeedback}
 use Rattle.received.specs.declared.status.StatusName.the-variants.{Enabled}
+use Rattle.session.specs.Cache.{held, slot-of}
+use Rattle.session.specs.Session.{fresh}
+use Rattle.session.specs.declared.Session.{Session}
+use Rattle.taking.specs.Taking.{take-frame}
 
 -- model 4310's limits: 12.5, 30, 10
 abbrev pub p : Float
@@ -45,6 +52,17 @@ at-minimum = frame 0x11 0x00 0x00 0x00 0x00 0x00 0x1E 0x28
 abbrev pub minimum : SensorFeedback
 minimum = record { «can_id» = 1; «status_code» = 1; pos = neg p; vel = neg v; torq = neg t; «t_mos» = float 30; «t_rotor» = float 40 }
 
+-- 11 0F 33 0A 01 00 00 00
+abbrev pub ten-is-one : List ℕ
+ten-is-one = frame 0x11 0x0F 0x33 0x0A 0x01 0x00 0x00 0x00
+
+-- whole, on the feedback id 0x11 of a session that has heard nothing
+abbrev pub on-bus : List ℕ → CanFrame
+on-bus bytes = record { «arbitration_id» = 0x11; «data» = bytes; dlc = 8; «is_extended» = false }
+
+abbrev pub session : Session
+session = fresh 1 0x11 (from-maxima p v t)
+
 -- the query 12.5, 45, 10
 abbrev pub query : Maxima
 query = record { «p_max» = p; «v_max» = float 45; «t_max» = t }
@@ -55,7 +73,8 @@ pub record Star : Type 0 where
   pub feedback-decoded : decoded p v t at-minimum ≡ Decode.Feedback minimum
   pub feedback-sorted : received (from-maxima p v t) at-minimum ≡ Receive.Feedback minimum
   pub feedback-status : status-name (minimum .«status_code») ≡ Enabled
-  pub register-ten : received (from-maxima p v t) (frame 0x11 0x0F 0x33 0x0A 0x01 0x00 0x00 0x00) ≡ Receive.Reply 10 (UInt32 1)
+  pub register-ten : received (from-maxima p v t) ten-is-one ≡ Receive.Reply 10 (UInt32 1)
+  pub register-ten-stored : (reading : Instant) → reading .0 ≤ 2 ^ 62 → slot-of (take-frame session (on-bus ten-is-one) reading .session .replies) 10 ≡ held (UInt32 1) reading
   pub d1-too-high : class-of (frame 0x11 0x10 0x33 0x0A 0x01 0x00 0x00 0x00) ≡ Class.Feedback
   pub d3-unknown : class-of (frame 0x11 0x0F 0x33 0x25 0x01 0x00 0x00 0x00) ≡ Class.Feedback
   pub read-ten : register-read-cmd 1 10 ≡ Frame 0x7FF 0x0100_330A_0000_0000

@@ -1,0 +1,159 @@
+-- What taking a frame does to a register's reply and ack, to the record and to the last reading, and what it leaves alone. Assumes nothing.
+use Prim.Native.Nat.{ℕ, _≤_, _<_, _^_}
+use mathlib.Core.Path.{_≡_, refl, sym, ap, _∙_, subst}
+use mathlib.Core.Bool.{Bool, true, false, _&&_, cond}
+use mathlib.Core.List.{List}
+use mathlib.Core.Option.{Option, none, some}
+use native.Mathlib.Nat.{le-refl}
+use borrow.Author.Tests.{leb-true}
+use lib.Dec.{T, leb, eqb, eqb→eq, eqb-refl}
+use lib.ListN.{length, getD, set, length-set}
+use lib.Seq.{getD-set-same, getD-set-other}
+use Rattle.motor_core.specs.Error as Error
+use Rattle.motor_core.specs.Time.{reading-accepted}
+use Rattle.motor_core.specs.declared.bus.CanFrame.{CanFrame}
+use Rattle.motor_core.specs.declared.time.Instant.{Instant}
+use Rattle.registers.specs.Registers.{known}
+use Rattle.registers.specs.declared.RegisterValue.{RegisterValue}
+use Rattle.registers.proofs.Below.{known-below}
+use Rattle.received.specs.Received.{d}
+use Rattle.received.specs.declared.feedback.Received.{Received}
+use Rattle.received.specs.declared.feedback.Received.the-variants.{Reply, Ack, Feedback}
+use Rattle.received.proofs.OfRegister.{OfRegister, of-register}
+use Rattle.feedback.specs.declared.FeedbackCache.{FeedbackCache}
+use Rattle.session.specs.Cache.{empty, held, slot-of}
+use Rattle.session.specs.declared.Session.{Session}
+use Rattle.session.specs.declared.cache.Slot.{Slot}
+use Rattle.taking.specs.Effects.{replied, acked, reported, reply-taken, ack-taken, state-taken, if-taken, slot-with, record-with, last-with}
+use Rattle.taking.specs.Taking.{frame-outcome, feedback-after, replies-after, acks-after, session-after, says, take-by, take-frame}
+use Rattle.taking.specs.declared.Outcome.{Outcome}
+use Rattle.taking.specs.declared.Outcome.the-variants.{Taken, Refused}
+
+-- one register's slot where a value is held for a known register
+slot-set : (slots : List Slot) (rid r n : ℕ) (v : RegisterValue) (t : Instant) → length slots ≡ 82 → r ≡ n → known n ≡ true
+    → slot-of (set slots r (held v t)) rid ≡ slot-with (cond (eqb rid r) (some v) none) t (slot-of slots rid)
+slot-set slots rid r n v t size e k = go (eqb rid r) (eqb→eq rid r) (λ same. subst (λ (i : ℕ). T (eqb rid i)) same (eqb-refl rid))
+  where
+    here : r < length slots
+    here = subst (λ (m : ℕ). r < m) (sym size) (subst (λ (i : ℕ). i < 82) (sym e) (known-below n k))
+
+    go : (b : Bool) → (T b → rid ≡ r) → (rid ≡ r → T b) → slot-of (set slots r (held v t)) rid ≡ slot-with (cond b (some v) none) t (slot-of slots rid)
+    go true same of = ap (slot-of (set slots r (held v t))) (same tt) ∙ getD-set-same slots r (held v t) empty here
+    go false same of = getD-set-other slots r rid (held v t) empty (λ e. of e)
+
+reply-slot : (slots : List Slot) (rid n : ℕ) (r : Received) (t : Instant) → length slots ≡ 82 → OfRegister r n → slot-of (replies-after slots r t) rid ≡ slot-with (replied rid r) t (slot-of slots rid)
+reply-slot slots rid n (Reply r v) t size (e, k) = slot-set slots rid r n v t size e k
+reply-slot slots rid n (Ack r v) t size of = refl
+reply-slot slots rid n (Feedback f) t size of = refl
+
+ack-slot : (slots : List Slot) (rid n : ℕ) (r : Received) (t : Instant) → length slots ≡ 82 → OfRegister r n → slot-of (acks-after slots r t) rid ≡ slot-with (acked rid r) t (slot-of slots rid)
+ack-slot slots rid n (Reply r v) t size of = refl
+ack-slot slots rid n (Ack r v) t size (e, k) = slot-set slots rid r n v t size e k
+ack-slot slots rid n (Feedback f) t size of = refl
+
+record-of : (cache : FeedbackCache) (id : ℕ) (r : Received) (t : Instant) → feedback-after cache id r t ≡ record-with (reported id r) t cache
+record-of cache id (Reply r v) t = refl
+record-of cache id (Ack r v) t = refl
+record-of cache id (Feedback f) t = refl
+
+replies-length : (slots : List Slot) (r : Received) (t : Instant) → length (replies-after slots r t) ≡ length slots
+replies-length slots (Reply r v) t = length-set slots r (held v t)
+replies-length slots (Ack r v) t = refl
+replies-length slots (Feedback f) t = refl
+
+acks-length : (slots : List Slot) (r : Received) (t : Instant) → length (acks-after slots r t) ≡ length slots
+acks-length slots (Reply r v) t = refl
+acks-length slots (Ack r v) t = length-set slots r (held v t)
+acks-length slots (Feedback f) t = refl
+
+-- a reading that is taken
+abbrev by-reading : Bool → Outcome
+by-reading accepted = cond accepted Taken (Refused Error.reading)
+
+forward : (last t : Instant) → last .0 ≤ last-with (by-reading (reading-accepted last t)) t last .0
+forward last t = go (leb (last .0) (t .0)) (leb (t .0) (2 ^ 62)) (leb-true (last .0) (t .0))
+  where
+    go : (late early : Bool) → (late ≡ true → last .0 ≤ t .0) → last .0 ≤ last-with (by-reading (late && early)) t last .0
+    go true true h = h refl
+    go true false h = le-refl (last .0)
+    go false early h = le-refl (last .0)
+
+module _ (s : Session) (frame : CanFrame) (t : Instant) where
+  abbrev after : Session
+  after = take-frame s frame t .session
+
+  abbrev outcome : Outcome
+  outcome = frame-outcome (s .heard) frame t
+
+  of : OfRegister (says (s .heard) frame) (d (frame .«data») 3)
+  of = of-register (s .heard .limits) (frame .«data»)
+
+  -- a register's reply, and its ack
+  pub reply-after-frame : (rid : ℕ) → length (s .replies) ≡ 82 → slot-of (after .replies) rid ≡ slot-with (reply-taken rid (s .heard) frame t) t (slot-of (s .replies) rid)
+  unfolding take-frame
+  reply-after-frame rid size = go outcome
+    where
+      go : (o : Outcome) → slot-of (take-by o s frame t .replies) rid ≡ slot-with (if-taken o (replied rid (says (s .heard) frame))) t (slot-of (s .replies) rid)
+      go Taken = reply-slot (s .replies) rid _ (says (s .heard) frame) t size of
+      go (Refused n) = refl
+
+  pub ack-after-frame : (rid : ℕ) → length (s .acks) ≡ 82 → slot-of (after .acks) rid ≡ slot-with (ack-taken rid (s .heard) frame t) t (slot-of (s .acks) rid)
+  unfolding take-frame
+  ack-after-frame rid size = go outcome
+    where
+      go : (o : Outcome) → slot-of (take-by o s frame t .acks) rid ≡ slot-with (if-taken o (acked rid (says (s .heard) frame))) t (slot-of (s .acks) rid)
+      go Taken = ack-slot (s .acks) rid _ (says (s .heard) frame) t size of
+      go (Refused n) = refl
+
+  -- the record with its number and stamp
+  pub record-after-frame : after .heard .feedback ≡ record-with (state-taken (s .heard) frame t) t (s .heard .feedback)
+  unfolding take-frame
+  record-after-frame = go outcome
+    where
+      go : (o : Outcome) → take-by o s frame t .heard .feedback ≡ record-with (if-taken o (reported (frame .«arbitration_id») (says (s .heard) frame))) t (s .heard .feedback)
+      go Taken = record-of (s .heard .feedback) (frame .«arbitration_id») (says (s .heard) frame) t
+      go (Refused n) = refl
+
+  -- the last reading, which never goes back
+  pub last-after-frame : after .heard .last ≡ last-with outcome t (s .heard .last)
+  unfolding take-frame
+  last-after-frame = go outcome
+    where
+      go : (o : Outcome) → take-by o s frame t .heard .last ≡ last-with o t (s .heard .last)
+      go Taken = refl
+      go (Refused n) = refl
+
+  pub last-goes-on : s .heard .last .0 ≤ after .heard .last .0
+  last-goes-on = subst (λ (l : Instant). s .heard .last .0 ≤ l .0) (sym last-after-frame) (forward (s .heard .last) t)
+
+  -- what neither a reply nor an ack nor a feedback changes
+  stays : {A : Type 0} (part : Session → A) → part (session-after s (frame .«arbitration_id») (says (s .heard) frame) t) ≡ part s → part after ≡ part s
+  unfolding take-frame
+  stays {A} part e = go outcome
+    where
+      go : (o : Outcome) → part (take-by o s frame t) ≡ part s
+      go Taken = e
+      go (Refused n) = refl
+
+  pub record Left : Type 0 where
+    pub motor : after .heard .«motor_id» ≡ s .heard .«motor_id»
+    pub feedback : after .heard .«feedback_id» ≡ s .heard .«feedback_id»
+    pub limits : after .heard .limits ≡ s .heard .limits
+    pub run : after .run ≡ s .run
+    pub replies : length (after .replies) ≡ length (s .replies)
+    pub acks : length (after .acks) ≡ length (s .acks)
+
+  pub left : Left
+  left = record {
+    motor = stays (λ (x : Session). x .heard .«motor_id») refl;
+    feedback = stays (λ (x : Session). x .heard .«feedback_id») refl;
+    limits = stays (λ (x : Session). x .heard .limits) refl;
+    run = stays (λ (x : Session). x .run) refl;
+    replies = stays (λ (x : Session). length (x .replies)) (replies-length (s .replies) (says (s .heard) frame) t);
+    acks = stays (λ (x : Session). length (x .acks)) (acks-length (s .acks) (says (s .heard) frame) t);
+  }
+
+  -- a frame that is turned back leaves all
+  pub turned-back : (n : ℕ) → outcome ≡ Refused n → after ≡ s
+  unfolding take-frame
+  turned-back n e = ap (λ (o : Outcome). take-by o s frame t) e
