@@ -1,4 +1,6 @@
 // Bench cases that are run and not proved. Each line is a name and what came out.
+mod sessions;
+
 use float::F32Bits;
 use frame::Command;
 use libc::STDOUT_FILENO;
@@ -18,7 +20,7 @@ fn text(words: &[u8]) {
     io::write_all(STDOUT_FILENO, words);
 }
 
-fn line(name: &[u8], number: u64) {
+pub(crate) fn line(name: &[u8], number: u64) {
     text(name);
     io::print_hex(STDOUT_FILENO, number, 1);
     text(b"\n");
@@ -184,4 +186,5 @@ fn main() {
     shown_once();
     limits(b"6248P");
     limits(b"6248");
+    sessions::run();
 }

@@ -1,0 +1,123 @@
+// What a session makes of a frame, at the ends of what is taken and counted.
+use crate::line;
+use feedback::Latest;
+use models::list::Maxima;
+use motor_core::bus::CanFrame;
+use motor_core::time::Instant;
+use session::Session;
+use session::start::Outcome as StartOutcome;
+use session::start::Started;
+use session::start::from_limits;
+use session::start::from_model;
+use taking::Outcome;
+use taking::Taking;
+use taking::process_feedback_frame;
+
+const FEEDBACK: u64 = 0x1100_0000_0000_1e28;
+
+fn maxima(p_max: f32) -> Maxima {
+    Maxima {
+        p_max,
+        v_max: 30.0,
+        t_max: 10.0,
+    }
+}
+
+fn started() -> Session {
+    let start = from_limits(1, 0x11, maxima(12.5));
+    start.session
+}
+
+fn take(session: Session, data: u64, reading: u64) -> Taking {
+    process_feedback_frame(
+        session,
+        CanFrame {
+            arbitration_id: 0x11,
+            data: frame::data_bytes(data),
+            dlc: 8,
+            is_extended: false,
+        },
+        Instant(reading),
+    )
+}
+
+// The number of the latest record, 0 if there is none.
+fn record_number(session: Session) -> u64 {
+    let latest = session::latest_state_snapshot(session.heard);
+    match latest {
+        Latest::None => 0,
+        Latest::Snapshot(snapshot) => snapshot.sequence,
+    }
+}
+
+// The refusal's number, 0 if there is none.
+fn refusal(taking: Taking) -> u64 {
+    let outcome = taking.outcome;
+    match outcome {
+        Outcome::Taken => 0,
+        Outcome::Refused(number) => number as u64,
+    }
+}
+
+fn start_refusal(start: Started) -> u64 {
+    let outcome = start.outcome;
+    match outcome {
+        StartOutcome::Started => 0,
+        StartOutcome::Refused(number) => number as u64,
+    }
+}
+
+// The number of the record that the second last and the last number lead to.
+fn numbers_end() {
+    let mut session = started();
+    let mut heard = session.heard;
+    let mut cache = heard.feedback;
+    cache.sequence = u64::MAX - 1;
+    heard.feedback = cache;
+    session.heard = heard;
+    let first = take(session, FEEDBACK, 1);
+    let session = first.session;
+    line(
+        b"after number FFFFFFFFFFFFFFFE comes ",
+        record_number(session),
+    );
+    let second = take(session, FEEDBACK, 2);
+    let session = second.session;
+    line(b"and after that ", record_number(session));
+}
+
+// A frame with this reading after one at 5.
+fn reading(name: &[u8], reading: u64) {
+    let first = take(started(), FEEDBACK, 5);
+    let session = first.session;
+    line(name, refusal(take(session, FEEDBACK, reading)));
+}
+
+fn patch_with_none() {
+    let patched = session::patch_latest(started(), 0, 0, 0);
+    line(
+        b"a patch before the first record answers ",
+        patched.patched as u64,
+    );
+}
+
+pub(crate) fn run() {
+    numbers_end();
+    reading(b"after reading 5, refusal of 5: ", 5);
+    reading(b"of 4: ", 4);
+    reading(b"of 4000000000000000: ", 0x4000_0000_0000_0000);
+    reading(b"of 4000000000000001: ", 0x4000_0000_0000_0001);
+    patch_with_none();
+    line(
+        b"start with limit 0 and motor id FD00: ",
+        start_refusal(from_limits(0xfd00, 0x11, maxima(0.0))),
+    );
+    line(
+        b"with an unknown name and motor id FD00: ",
+        start_refusal(from_model(0xfd00, 0x11, models::list::damiao_models(), b"4311")),
+    );
+    line(
+        b"with motor id FD00: ",
+        start_refusal(from_model(0xfd00, 0x11, models::list::damiao_models(), b"4310")),
+    );
+}
