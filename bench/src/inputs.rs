@@ -1,9 +1,11 @@
-//! What is measured: a million of each, from a fixed seed.
+//! What is measured: a million of each, and fewer frames that are taken, from a fixed seed.
 
 use motor_vendor_damiao::motor::adapter;
 use motor_vendor_damiao::registers::{register_info, REGISTER_TABLE};
 
 pub const COUNT: usize = 1_000_000;
+/// So many frames are taken into a session.
+pub const TAKEN: usize = 50_000;
 
 const REPLY: u8 = 0x33;
 const ACK: u8 = 0x55;
@@ -126,6 +128,6 @@ pub fn mixed(random: &mut Random) -> Frame {
     }
 }
 
-pub fn frames(random: &mut Random, make: fn(&mut Random) -> Frame) -> Vec<u8> {
-    (0..COUNT).flat_map(|_| make(random)).collect()
+pub fn frames(random: &mut Random, make: fn(&mut Random) -> Frame, count: usize) -> Vec<u8> {
+    (0..count).flat_map(|_| make(random)).collect()
 }

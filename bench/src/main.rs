@@ -5,6 +5,7 @@ mod inputs;
 mod measure;
 mod original;
 mod ours;
+mod taking;
 
 use inputs::{Frame, Random};
 use measure::{Row, Work};
@@ -26,7 +27,7 @@ fn encode(random: &mut Random, name: &'static str, beyond: f32, n: usize) -> Res
 }
 
 fn decode(random: &mut Random, name: &'static str, n: usize) -> Result<Row, String> {
-    let input = inputs::frames(random, inputs::feedback);
+    let input = inputs::frames(random, inputs::feedback, inputs::COUNT);
     let work = Work {
         name,
         input: &input,
@@ -43,13 +44,30 @@ fn sort(
     make: fn(&mut Random) -> Frame,
     n: usize,
 ) -> Result<Row, String> {
-    let input = inputs::frames(random, make);
+    let input = inputs::frames(random, make, inputs::COUNT);
     let work = Work {
         name,
         input: &input,
         width: 8,
         ours: ours::sort,
         original: original::sort,
+    };
+    work.measured(n)
+}
+
+fn take(
+    random: &mut Random,
+    name: &'static str,
+    make: fn(&mut Random) -> Frame,
+    n: usize,
+) -> Result<Row, String> {
+    let input = inputs::frames(random, make, inputs::TAKEN);
+    let work = Work {
+        name,
+        input: &input,
+        width: 8,
+        ours: ours::take,
+        original: taking::take,
     };
     work.measured(n)
 }
@@ -98,6 +116,9 @@ fn rows(n: usize) -> Result<Vec<Row>, String> {
         matching(r, "match, tolerance 1", 1.0, n)?,
         matching(r, "match, tolerance 20", 20.0, n)?,
         suggest(r, "suggest three", n)?,
+        take(r, "take feedback frames, by value", inputs::feedback, n)?,
+        take(r, "take replies, by value", inputs::reply, n)?,
+        take(r, "take, a third of each class, by value", inputs::mixed, n)?,
     ])
 }
 

@@ -1,4 +1,5 @@
-//! The proved loops of crates bench_loops and model_loops. Each takes a slice as pointer and length.
+//! The proved loops of crates bench_loops, model_loops and session_loops. Each takes a slice as pointer
+//! and length.
 
 #[link(name = "bench_loops", kind = "static")]
 extern "C" {
@@ -11,6 +12,11 @@ extern "C" {
 extern "C" {
     fn model_loops_match(xs: *const f32, len: usize) -> u64;
     fn model_loops_suggest(xs: *const f32, len: usize) -> u64;
+}
+
+#[link(name = "session_loops", kind = "static")]
+extern "C" {
+    fn session_loops_frames(frames: *const u8, len: usize) -> u64;
 }
 
 pub fn encode_mit(setpoints: &[f32]) -> u64 {
@@ -37,4 +43,9 @@ pub fn matching(queries: &[f32]) -> u64 {
 pub fn suggest(queries: &[f32]) -> u64 {
     // SAFETY: as above.
     unsafe { model_loops_suggest(queries.as_ptr(), queries.len()) }
+}
+
+pub fn take(frames: &[u8]) -> u64 {
+    // SAFETY: as above.
+    unsafe { session_loops_frames(frames.as_ptr(), frames.len()) }
 }
