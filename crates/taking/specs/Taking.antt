@@ -19,6 +19,8 @@ use Rattle.session.specs.declared.Session.{Session}
 use Rattle.session.specs.declared.cache.Slot.{Slot}
 use Rattle.taking.specs.declared.Outcome.{Outcome}
 use Rattle.taking.specs.declared.Outcome.the-variants.{Taken, Refused}
+use Rattle.taking.specs.declared.Kept.{Kept}
+use Rattle.taking.specs.declared.Kept.the-variants as Keep
 use Rattle.taking.specs.declared.Step.{Step}
 use Rattle.taking.specs.declared.Taking.{Taking}
 
@@ -72,30 +74,24 @@ take-by (Refused number) s frame reading = s
 unfoldable pub take-frame : Session → CanFrame → Instant → Taking
 take-frame s frame reading =
     let outcome = frame-outcome (s .heard) frame reading in
-    record { outcome = outcome; session = take-by outcome s frame reading }
+    record { session = take-by outcome s frame reading; outcome = outcome }
 
--- The same on the small parts: the slots are those of one register, which is the frame's if it is of any.
+-- The same on the small parts, and what is kept in the slot of the frame's register.
 
 abbrev pub place : ℕ → ℕ
 place rid = cond (ltb rid 82) rid 0
 
-abbrev pub reply-after : Slot → Received → Instant → Slot
-reply-after reply (Reply rid value) reading = held value reading
-reply-after reply (Ack rid value) reading = reply
-reply-after reply (Feedback f) reading = reply
+abbrev pub kept-of : Received → Instant → Kept
+kept-of (Reply rid value) reading = Keep.Reply (held value reading)
+kept-of (Ack rid value) reading = Keep.Ack (held value reading)
+kept-of (Feedback f) reading = Keep.Nothing
 
-abbrev pub ack-after : Slot → Received → Instant → Slot
-ack-after ack (Reply rid value) reading = ack
-ack-after ack (Ack rid value) reading = held value reading
-ack-after ack (Feedback f) reading = ack
+abbrev pub taken-step : Heard → ℕ → Received → Instant → Step
+taken-step h id received reading = record { outcome = Taken; heard = heard-after h id received reading; kept = kept-of received reading }
 
-abbrev pub taken-step : Heard → Slot → Slot → ℕ → Received → Instant → Step
-taken-step h reply ack id received reading =
-    record { outcome = Taken; heard = heard-after h id received reading; reply = reply-after reply received reading; ack = ack-after ack received reading }
+abbrev pub step-by : Outcome → Heard → CanFrame → Instant → Step
+step-by Taken h frame reading = taken-step h (frame .«arbitration_id») (says h frame) reading
+step-by (Refused number) h frame reading = record { outcome = Refused number; heard = h; kept = Keep.Nothing }
 
-abbrev pub step-by : Outcome → Heard → Slot → Slot → CanFrame → Instant → Step
-step-by Taken h reply ack frame reading = taken-step h reply ack (frame .«arbitration_id») (says h frame) reading
-step-by (Refused number) h reply ack frame reading = record { outcome = Refused number; heard = h; reply = reply; ack = ack }
-
-unfoldable pub frame-step : Heard → Slot → Slot → CanFrame → Instant → Step
-frame-step h reply ack frame reading = step-by (frame-outcome h frame reading) h reply ack frame reading
+unfoldable pub frame-step : Heard → CanFrame → Instant → Step
+frame-step h frame reading = step-by (frame-outcome h frame reading) h frame reading

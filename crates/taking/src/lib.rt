@@ -1,5 +1,5 @@
-// Taking a frame into a session. The work is done on the session's small parts and on the two slots
-// of the register that the frame may be of; the entry on a whole session is thin around it.
+// Taking a frame into a session. The work is done on the session's small parts, with at most one slot
+// that is written; the entry on a whole session is thin around it.
 ghost use mathlib.Core.Path.{_≡_};
 ghost use Prim.Native.Nat.{_<_};
 ghost use Rattle.received.specs.Received.{d};
@@ -23,21 +23,28 @@ pub enum Outcome {
     Refused(u8),
 }
 
-// The parts after a frame.
+// What a frame leaves in a slot of its register, of the replies or of the acks.
+pub enum Kept {
+    Nothing,
+    Reply(Slot),
+    Ack(Slot),
+}
+
+// The small parts after a frame, and what is to be kept.
 pub struct Step {
     pub outcome: Outcome,
     pub heard: Heard,
-    pub reply: Slot,
-    pub ack: Slot,
+    pub kept: Kept,
 }
 
+// The session stands first: copies of it are cheaper so.
 pub struct Taking {
-    pub outcome: Outcome,
     pub session: Session,
+    pub outcome: Outcome,
 }
 
 // The place of the slots of the register in d3. Where no register has that number, any place will
-// do: the frame is feedback, and the slots stay as they are.
+// do: the frame is feedback, and nothing is kept.
 pub fn slot_place(data: [u8; 8]) -> usize
     ensures { λ r. ⌜ (r ≡ Spec.place (d «data» 3)) × (r < 82) ⌝ }
 {
@@ -59,33 +66,24 @@ fn heard_at(heard: Heard, feedback: FeedbackCache, reading: Instant) -> Heard
 }
 
 // What a frame that is taken does to the parts, by what it says.
-fn taken_step(
-    heard: Heard,
-    reply: Slot,
-    ack: Slot,
-    arbitration_id: u32,
-    received: Received,
-    reading: Instant,
-) -> Step
-    ensures { λ r. ⌜ r ≡ Spec.taken-step heard reply ack «arbitration_id» received reading ⌝ }
+fn taken_step(heard: Heard, arbitration_id: u32, received: Received, reading: Instant) -> Step
+    ensures { λ r. ⌜ r ≡ Spec.taken-step heard «arbitration_id» received reading ⌝ }
 {
     let feedback = heard.feedback;
     match received {
         Received::Reply(_, value) => Step {
             outcome: Outcome::Taken,
             heard: heard_at(heard, feedback, reading),
-            reply: Slot {
+            kept: Kept::Reply(Slot {
                 entry: Entry::Held(value, reading),
-            },
-            ack,
+            }),
         },
         Received::Ack(_, value) => Step {
             outcome: Outcome::Taken,
             heard: heard_at(heard, feedback, reading),
-            reply,
-            ack: Slot {
+            kept: Kept::Ack(Slot {
                 entry: Entry::Held(value, reading),
-            },
+            }),
         },
         Received::Feedback(decoded) => Step {
             outcome: Outcome::Taken,
@@ -94,31 +92,27 @@ fn taken_step(
                 update(feedback, state_of(arbitration_id, decoded), reading),
                 reading,
             ),
-            reply,
-            ack,
+            kept: Kept::Nothing,
         },
     }
 }
 
-// Takes a frame, with its reading, into the parts; `reply` and `ack` are the slots at `slot_place`.
-pub fn frame_step(heard: Heard, reply: Slot, ack: Slot, frame: CanFrame, reading: Instant) -> Step
-    ensures { λ r. ⌜ r ≡ Spec.frame-step heard reply ack frame reading ⌝ }
+// Takes a frame, with its reading, into the parts. What is kept belongs at `slot_place`.
+pub fn frame_step(heard: Heard, frame: CanFrame, reading: Instant) -> Step
+    ensures { λ r. ⌜ r ≡ Spec.frame-step heard frame reading ⌝ }
 {
     let last = heard.last;
     if !accepts_reading(last, reading) {
         return Step {
             outcome: Outcome::Refused(READING),
             heard,
-            reply,
-            ack,
+            kept: Kept::Nothing,
         };
     }
     let data = frame.data;
     let limits = heard.limits;
     taken_step(
         heard,
-        reply,
-        ack,
         frame.arbitration_id,
         read_frame(data, limits),
         reading,
@@ -133,15 +127,20 @@ pub fn process_feedback_frame(session: Session, frame: CanFrame, reading: Instan
     let data = frame.data;
     let place = slot_place(data);
     let heard = session.heard;
-    let reply = session.replies[place];
-    let ack = session.acks[place];
-    let step = frame_step(heard, reply, ack, frame, reading);
+    let step = frame_step(heard, frame, reading);
     let heard_after = step.heard;
-    let reply_after = step.reply;
-    let ack_after = step.ack;
     session.heard = heard_after;
-    session.replies[place] = reply_after;
-    session.acks[place] = ack_after;
+    let kept = step.kept;
     let outcome = step.outcome;
-    Taking { outcome, session }
+    match kept {
+        Kept::Nothing => Taking { session, outcome },
+        Kept::Reply(slot) => {
+            session.replies[place] = slot;
+            Taking { session, outcome }
+        }
+        Kept::Ack(slot) => {
+            session.acks[place] = slot;
+            Taking { session, outcome }
+        }
+    }
 }

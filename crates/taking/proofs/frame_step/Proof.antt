@@ -16,7 +16,7 @@ returns : tie.Need-returns
 unfolding Spec.frame-step
 returns c =
     let a = c .before .before .before .args in
-    ap (λ (o : Outcome). Spec.step-by o (a .heard) (a .reply) (a .ack) (a .frame) (a .reading)) (turned _ _ _ _ (c .before .accepts-reading .ensures) (c .if1 .taken))
+    ap (λ (o : Outcome). Spec.step-by o (a .heard) (a .frame) (a .reading)) (turned _ _ _ _ (c .before .accepts-reading .ensures) (c .if1 .taken))
 
 read-frame-requires : tie.Need-read-frame-requires
 read-frame-requires c κs = search needs
@@ -30,8 +30,8 @@ returns-2 c =
     let tested = c .before .before .before .before in
     let a = tested .before .before .before .args in
     c .taken-step .ensures
-    ∙ ap (λ (r : Received). Spec.taken-step (a .heard) (a .reply) (a .ack) (a .frame .«arbitration_id») r (a .reading)) (c .before .read-frame .ensures)
-    ∙ ap (λ (o : Outcome). Spec.step-by o (a .heard) (a .reply) (a .ack) (a .frame) (a .reading)) (passed _ _ _ _ (tested .before .accepts-reading .ensures) (tested .if1 .left))
+    ∙ ap (λ (r : Received). Spec.taken-step (a .heard) (a .frame .«arbitration_id») r (a .reading)) (c .before .read-frame .ensures)
+    ∙ ap (λ (o : Outcome). Spec.step-by o (a .heard) (a .frame) (a .reading)) (passed _ _ _ _ (tested .before .accepts-reading .ensures) (tested .if1 .left))
 
 pub frame-step-spec : {M : Type 1} → statement M
 frame-step-spec =

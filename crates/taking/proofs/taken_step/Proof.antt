@@ -7,6 +7,7 @@ use Rattle.feedback.specs.Feedback.{update}
 use Rattle.session.specs.Cache.{held}
 use Rattle.session.specs.declared.Heard.{Heard}
 use Rattle.taking.specs.Taking as Spec
+use Rattle.taking.specs.declared.Kept.the-variants as Keep
 use Rattle.taking.specs.declared.Outcome.the-variants.{Taken}
 use Rattle.taking.specs.declared.Step.{Step}
 use borrow.Author.Needs.{needs}
@@ -41,25 +42,25 @@ returns : tie.Need-returns
 returns c =
     let told = c .before .before in
     let a = told .before .before .before .args in
-    ap {B = Step} (λ (h : Heard). record { outcome = Taken; heard = h; reply = held (told .received .given .0 .1 .0) (a .reading); ack = a .ack }) (c .heard-at .ensures)
-    ∙ sym (ap (λ (r : Received). Spec.taken-step (a .heard) (a .reply) (a .ack) (a .arbitration-id) r (a .reading)) (told .received .given .1))
+    ap {B = Step} (λ (h : Heard). record { outcome = Taken; heard = h; kept = Keep.Reply (held (told .received .given .0 .1 .0) (a .reading)) }) (c .heard-at .ensures)
+    ∙ sym (ap (λ (r : Received). Spec.taken-step (a .heard) (a .arbitration-id) r (a .reading)) (told .received .given .1))
 
 returns-2 : tie.Need-returns-2
 returns-2 c =
     let told = c .before .before in
     let a = told .before .before .before .args in
-    ap {B = Step} (λ (h : Heard). record { outcome = Taken; heard = h; reply = a .reply; ack = held (told .received2 .given .0 .1 .0) (a .reading) }) (c .heard-at2 .ensures)
-    ∙ sym (ap (λ (r : Received). Spec.taken-step (a .heard) (a .reply) (a .ack) (a .arbitration-id) r (a .reading)) (told .received2 .given .1))
+    ap {B = Step} (λ (h : Heard). record { outcome = Taken; heard = h; kept = Keep.Ack (held (told .received2 .given .0 .1 .0) (a .reading)) }) (c .heard-at2 .ensures)
+    ∙ sym (ap (λ (r : Received). Spec.taken-step (a .heard) (a .arbitration-id) r (a .reading)) (told .received2 .given .1))
 
 returns-3 : tie.Need-returns-3
 returns-3 c =
     let told = c .before .before .before .before in
     let a = told .before .before .before .args in
-    ap {B = Step} (λ (h : Heard). record { outcome = Taken; heard = h; reply = a .reply; ack = a .ack })
+    ap {B = Step} (λ (h : Heard). record { outcome = Taken; heard = h; kept = Keep.Nothing })
     (c .heard-at3 .ensures
     ∙ ap (λ (f : FeedbackCache). Spec.heard-at (a .heard) f (a .reading))
     (c .before .update .ensures ∙ ap (λ (s : MotorFeedbackState). update (a .heard .feedback) s (a .reading)) (c .before .before .state-of .ensures)))
-    ∙ sym (ap (λ (r : Received). Spec.taken-step (a .heard) (a .reply) (a .ack) (a .arbitration-id) r (a .reading)) (told .received3 .given .1))
+    ∙ sym (ap (λ (r : Received). Spec.taken-step (a .heard) (a .arbitration-id) r (a .reading)) (told .received3 .given .1))
 
 pub taken-step-spec : {M : Type 1} → statement M
 taken-step-spec =
