@@ -31,7 +31,7 @@ all-accepted (spec ∷ rest) = maxima-accepted (spec .maxima) && all-accepted re
 module _ (motor feedback : ℕ) where
   abbrev by-motor-id : Maxima → Started
   by-motor-id m =
-      cond (motor-id-accepted motor) (record { outcome = Begun; session = fresh motor feedback (from-maxima (m .«p_max») (m .«v_max») (m .«t_max»)) }) (refused Error.motor-id)
+      cond (motor-id-accepted motor) (record { session = fresh motor feedback (from-maxima (m .«p_max») (m .«v_max») (m .«t_max»)); outcome = Begun }) (refused Error.motor-id)
 
   -- with no test of the limits
   abbrev pub named : ModelLimits → Started

@@ -27,13 +27,13 @@ abbrev pub no-session : Session
 no-session = fresh 0 0 no-limits
 
 abbrev pub refused : ℕ → Started
-refused number = record { outcome = Outcome.Refused number; session = no-session }
+refused number = record { session = no-session; outcome = Outcome.Refused number }
 
 -- 'Turned back', start: the limits are tested first, 1, then the motor id, 2
 abbrev pub by-limits : LimitCheck → ℕ → ℕ → Started
 by-limits (Check.Refused number) motor feedback = refused number
 by-limits (Check.Accepted limits) motor feedback =
-    cond (motor-id-accepted motor) (record { outcome = Outcome.Started; session = fresh motor feedback limits }) (refused Error.motor-id)
+    cond (motor-id-accepted motor) (record { session = fresh motor feedback limits; outcome = Outcome.Started }) (refused Error.motor-id)
 
 unfoldable pub from-limits : ℕ → ℕ → Maxima → Started
 from-limits motor feedback m = by-limits (limits-of (m .«p_max») (m .«v_max») (m .«t_max»)) motor feedback

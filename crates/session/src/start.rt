@@ -28,8 +28,8 @@ pub enum Outcome {
 
 // Beside a refusal the session is `no_session()`.
 pub struct Started {
-    pub outcome: Outcome,
     pub session: Session,
+    pub outcome: Outcome,
 }
 
 // Empty caches, no record, number 0, last reading 0, no run.
@@ -79,8 +79,8 @@ fn refused(number: u8) -> Started
     ensures { λ r. ⌜ r ≡ Spec.refused number ⌝ }
 {
     Started {
-        outcome: Outcome::Refused(number),
         session: no_session(),
+        outcome: Outcome::Refused(number),
     }
 }
 
@@ -95,8 +95,8 @@ pub fn from_limits(motor_id: u16, feedback_id: u16, maxima: Maxima) -> Started
                 return refused(MOTOR_ID);
             }
             Started {
-                outcome: Outcome::Started,
                 session: fresh(motor_id, feedback_id, limits),
+                outcome: Outcome::Started,
             }
         }
     }

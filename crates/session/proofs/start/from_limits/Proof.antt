@@ -57,7 +57,7 @@ returns-3 : tie.Need-returns-3
 returns-3 c =
     let told = c .before .before .before .before in
     let a = told .before .before .before .args in
-    ap {B = Started} (λ (s : Session). record { outcome = Begun; session = s }) (c .fresh .ensures)
+    ap {B = Started} (λ (s : Session). record { session = s; outcome = Begun }) (c .fresh .ensures)
     ∙ passed _ _ _ _ (c .before .before .accepts-motor-id .ensures) (c .before .if1 .left)
     ∙ told-limits _ _ (a .motor-id) (a .feedback-id) (a .maxima) (told .before .before .from-maxima .ensures) (told .made2 .given .1)
 

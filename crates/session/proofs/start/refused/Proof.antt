@@ -11,7 +11,7 @@ no-session-requires : tie.Need-no-session-requires
 no-session-requires c κs = search needs
 
 returns : tie.Need-returns
-returns c = ap {B = Started} (λ (s : Session). record { outcome = Refused (c .before .args .number); session = s }) (c .no-session .ensures)
+returns c = ap {B = Started} (λ (s : Session). record { session = s; outcome = Refused (c .before .args .number) }) (c .no-session .ensures)
 
 pub refused-spec : {M : Type 1} → statement M
 refused-spec = tie.close (tie.spec no-session-requires returns)
