@@ -1,6 +1,7 @@
 // The lines of the input, however it is cut by the reads, and the output, which is kept until there
 // is much of it.
 use crate::answer;
+use crate::replies::put_line;
 use crate::sessions;
 use crate::sessions::State;
 use crate::sessions::unstarted;
@@ -91,10 +92,12 @@ fn whole_lines(
         let call = call_of(line, long);
         at = write_if_full(output, at);
         if call.code <= calls::SESSION {
-            let done = sessions::answer_call(state, call, line, output, at);
-            let after = done.state;
+            let step = sessions::answer(state, call, line);
+            let reply = step.reply;
+            let after = step.state;
+            let session = after.session;
             state = after;
-            at = done.to;
+            at = put_line(reply, session, output, at);
         } else {
             at = answer::answer_call(call, output, at);
         }

@@ -5,6 +5,7 @@ mod fields;
 mod lines;
 mod listing;
 mod print;
+mod replies;
 mod reports;
 mod session_text;
 mod sessions;

@@ -3,15 +3,14 @@ use crate::fields::low8;
 use crate::fields::low16;
 use crate::fields::low32;
 use crate::fields::real;
-use crate::print::put_flag;
-use crate::print::put_refused;
-use crate::session_text::put_session;
+use crate::replies::Reply;
 use models::list::Maxima;
 use models::list::damiao_models;
 use motor_core::bus::CanFrame;
 use motor_core::time::Instant;
 use script::Call;
 use script::calls;
+use session::Heard;
 use session::Session;
 use session::accepts_frame;
 use session::patch_latest;
@@ -19,8 +18,8 @@ use session::start::Started;
 use session::start::from_limits;
 use session::start::from_model;
 use session::start::no_session;
+use taking::Outcome;
 use taking::process_feedback_frame;
-use text::put;
 use words::second_word;
 
 // The session in use, once one has started.
@@ -29,10 +28,10 @@ pub(crate) struct State {
     pub(crate) session: Session,
 }
 
-// The state after a call, and where the output goes on.
-pub(crate) struct Answered {
+// The state after a call, and what the call is told.
+pub(crate) struct Step {
     pub(crate) state: State,
-    pub(crate) to: usize,
+    pub(crate) reply: Reply,
 }
 
 pub(crate) fn unstarted() -> State {
@@ -42,54 +41,30 @@ pub(crate) fn unstarted() -> State {
     }
 }
 
-// Answers a call up to `calls::SESSION`, with its newline.
-pub(crate) fn answer_call(
-    state: State,
-    call: Call,
-    line: &[u8],
-    output: &mut [u8],
-    to: usize,
-) -> Answered {
-    let done = answer(state, call, line, output, to);
-    let after = done.state;
-    let at = put(output, done.to, b"\n");
-    Answered {
-        state: after,
-        to: at,
-    }
-}
-
-fn answer(state: State, call: Call, line: &[u8], output: &mut [u8], to: usize) -> Answered {
+// A call up to `calls::SESSION`.
+pub(crate) fn answer(state: State, call: Call, line: &[u8]) -> Step {
     let code = call.code;
     if code <= calls::START_MODEL {
-        return start(state, started(call, line), output, to);
+        return start(state, started(call, line));
     }
     if !state.is_started {
-        let at = put(output, to, b"no session");
-        return Answered { state, to: at };
+        return Step {
+            state,
+            reply: Reply::NoSession,
+        };
     }
     let session = state.session;
     match code {
-        calls::FRAME => take(session, call, output, to),
-        calls::PATCH => patch(session, call, output, to),
-        calls::ACCEPTS => {
-            let at = accepts(session, call, output, to);
-            Answered { state, to: at }
-        }
-        calls::SESSION => {
-            let at = put_session(session, output, to);
-            Answered { state, to: at }
-        }
+        calls::FRAME => take(session, call),
+        calls::PATCH => patch(session, call),
         _ => {
-            let at = not_built(output, to);
-            Answered { state, to: at }
+            let heard = session.heard;
+            Step {
+                state,
+                reply: look(heard, call),
+            }
         }
     }
-}
-
-// The calls whose engine is to come.
-fn not_built(output: &mut [u8], to: usize) -> usize {
-    put(output, to, b"not built")
 }
 
 fn started(call: Call, line: &[u8]) -> Started {
@@ -109,25 +84,27 @@ fn started(call: Call, line: &[u8]) -> Started {
 }
 
 // A start that is refused leaves the session that is in use.
-fn start(state: State, started: Started, output: &mut [u8], to: usize) -> Answered {
+fn start(state: State, started: Started) -> Step {
     let outcome = started.outcome;
-    let session = started.session;
     match outcome {
-        session::start::Outcome::Started => in_use(session, put(output, to, b"started")),
-        session::start::Outcome::Refused(number) => {
-            let at = put_refused(number, output, to);
-            Answered { state, to: at }
+        session::start::Outcome::Started => {
+            let session = started.session;
+            in_use(session, Reply::Started)
         }
+        session::start::Outcome::Refused(number) => Step {
+            state,
+            reply: Reply::Refused(number),
+        },
     }
 }
 
-fn in_use(session: Session, to: usize) -> Answered {
-    Answered {
+fn in_use(session: Session, reply: Reply) -> Step {
+    Step {
         state: State {
             is_started: true,
             session,
         },
-        to,
+        reply,
     }
 }
 
@@ -140,32 +117,45 @@ fn frame_of(id: u64, data: u64, dlc: u64, flag: u64) -> CanFrame {
     }
 }
 
-fn take(session: Session, call: Call, output: &mut [u8], to: usize) -> Answered {
+fn take(session: Session, call: Call) -> Step {
     let a = call.args;
     let frame = frame_of(a[1], a[2], a[3], a[4]);
     let taking = process_feedback_frame(session, frame, Instant(a[0]));
     let outcome = taking.outcome;
     let after = taking.session;
-    in_use(after, put_outcome(outcome, output, to))
+    in_use(after, taken(outcome))
 }
 
-fn put_outcome(outcome: taking::Outcome, output: &mut [u8], to: usize) -> usize {
+fn taken(outcome: Outcome) -> Reply {
     match outcome {
-        taking::Outcome::Taken => put(output, to, b"taken"),
-        taking::Outcome::Refused(number) => put_refused(number, output, to),
+        Outcome::Taken => Reply::Taken,
+        Outcome::Refused(number) => Reply::Refused(number),
     }
 }
 
-fn accepts(session: Session, call: Call, output: &mut [u8], to: usize) -> usize {
-    let a = call.args;
-    let heard = session.heard;
-    let frame = frame_of(a[0], a[1], a[2], a[3]);
-    put_flag(output, to, b"accepts ", accepts_frame(heard, frame))
-}
-
-fn patch(session: Session, call: Call, output: &mut [u8], to: usize) -> Answered {
+fn patch(session: Session, call: Call) -> Step {
     let a = call.args;
     let done = patch_latest(session, low8(a[0]), low8(a[1]), low8(a[2]));
     let after = done.session;
-    in_use(after, put_flag(output, to, b"patched ", done.patched))
+    in_use(after, Reply::Patched(done.patched))
+}
+
+// The calls that leave the session as it is.
+fn look(heard: Heard, call: Call) -> Reply {
+    let code = call.code;
+    match code {
+        calls::ACCEPTS => accepts(heard, call),
+        calls::SESSION => Reply::Session,
+        _ => not_built(),
+    }
+}
+
+fn accepts(heard: Heard, call: Call) -> Reply {
+    let a = call.args;
+    Reply::Accepts(accepts_frame(heard, frame_of(a[0], a[1], a[2], a[3])))
+}
+
+// The calls whose engine is to come.
+fn not_built() -> Reply {
+    Reply::NotBuilt
 }

@@ -35,11 +35,14 @@ call-of-requires c κs = search needs
 write-if-full-requires : tie.Need-write-if-full-requires Inv-loop μ-loop
 write-if-full-requires c κs = search needs
 
+answer-requires : tie.Need-answer-requires Inv-loop μ-loop
+answer-requires c κs = search needs
+
+put-line-requires : tie.Need-put-line-requires Inv-loop μ-loop
+put-line-requires c κs = search needs
+
 answer-call-requires : tie.Need-answer-call-requires Inv-loop μ-loop
 answer-call-requires c κs = search needs
-
-answer-call-requires-2 : tie.Need-answer-call-requires-2 Inv-loop μ-loop
-answer-call-requires-2 c κs = search needs
 
 add-from : tie.Need-add-from Inv-loop μ-loop
 add-from c = omega arith
@@ -49,7 +52,7 @@ loop-less c = omega arith
 
 loop-again : tie.Need-loop-again Inv-loop μ-loop
 loop-again c =
-    ⊎-elim (λ w. omega (arith, w .2 .kept .1, ap length (w .6))) (λ w. omega (arith, w .2 .kept .1, ap length (w .5))) (c .if2 .came)
+    ⊎-elim (λ w. omega (arith, w .5 .kept .1, ap length (w .8))) (λ w. omega (arith, w .2 .kept .1, ap length (w .5))) (c .if2 .came)
 
 same-length : tie.Need-same-length Inv-loop μ-loop
 same-length c = omega arith
@@ -76,8 +79,9 @@ whole-lines-spec =
     part-line-end
     call-of-requires
     write-if-full-requires
+    answer-requires
+    put-line-requires
     answer-call-requires
-    answer-call-requires-2
     add-from
     loop-less
     loop-again

@@ -1,0 +1,45 @@
+// What a call on the session is told.
+use crate::print::put_flag;
+use crate::print::put_refused;
+use crate::session_text::put_session;
+use session::Session;
+use text::put;
+
+pub(crate) enum Reply {
+    NoSession,
+    NotBuilt,
+    Refused(u8),
+    Started,
+    Taken,
+    Accepts(bool),
+    Patched(bool),
+    // The session is printed.
+    Session,
+}
+
+// The reply with its newline; the session is the one after the call.
+pub(crate) fn put_line(reply: Reply, session: Session, output: &mut [u8], to: usize) -> usize {
+    match reply {
+        Reply::Session => {
+            let at = put_session(session, output, to);
+            put(output, at, b"\n")
+        }
+        _ => {
+            let at = put_reply(reply, output, to);
+            put(output, at, b"\n")
+        }
+    }
+}
+
+fn put_reply(reply: Reply, output: &mut [u8], to: usize) -> usize {
+    match reply {
+        Reply::NoSession => put(output, to, b"no session"),
+        Reply::NotBuilt => put(output, to, b"not built"),
+        Reply::Refused(number) => put_refused(number, output, to),
+        Reply::Started => put(output, to, b"started"),
+        Reply::Taken => put(output, to, b"taken"),
+        Reply::Accepts(flag) => put_flag(output, to, b"accepts ", flag),
+        Reply::Patched(flag) => put_flag(output, to, b"patched ", flag),
+        Reply::Session => to,
+    }
+}
