@@ -19,19 +19,11 @@ pub(crate) enum Reply {
 
 // The reply with its newline; the session is the one after the call.
 pub(crate) fn put_line(reply: Reply, session: Session, output: &mut [u8], to: usize) -> usize {
-    match reply {
-        Reply::Session => {
-            let at = put_session(session, output, to);
-            put(output, at, b"\n")
-        }
-        _ => {
-            let at = put_reply(reply, output, to);
-            put(output, at, b"\n")
-        }
-    }
+    let at = put_reply(reply, session, output, to);
+    put(output, at, b"\n")
 }
 
-fn put_reply(reply: Reply, output: &mut [u8], to: usize) -> usize {
+fn put_reply(reply: Reply, session: Session, output: &mut [u8], to: usize) -> usize {
     match reply {
         Reply::NoSession => put(output, to, b"no session"),
         Reply::NotBuilt => put(output, to, b"not built"),
@@ -40,6 +32,6 @@ fn put_reply(reply: Reply, output: &mut [u8], to: usize) -> usize {
         Reply::Taken => put(output, to, b"taken"),
         Reply::Accepts(flag) => put_flag(output, to, b"accepts ", flag),
         Reply::Patched(flag) => put_flag(output, to, b"patched ", flag),
-        Reply::Session => to,
+        Reply::Session => put_session(session, output, to),
     }
 }
