@@ -9,6 +9,11 @@ pub(crate) fn put_numbered(output: &mut [u8], to: usize, words: &[u8], number: u
     put_decimal(output, at, number)
 }
 
+// A space and the number.
+pub(crate) fn put_next(output: &mut [u8], to: usize, number: u64) -> usize {
+    put_numbered(output, to, b" ", number)
+}
+
 // The words, and 1 or 0.
 pub(crate) fn put_flag(output: &mut [u8], to: usize, words: &[u8], flag: bool) -> usize {
     put_numbered(output, to, words, if flag { 1 } else { 0 })

@@ -2,6 +2,7 @@
 use crate::fields::low8;
 use crate::fields::real;
 use crate::print::put_measured;
+use crate::print::put_next;
 use crate::print::put_numbered;
 use crate::print::put_refused;
 use crate::session_text::put_status_name;
@@ -44,7 +45,7 @@ fn put_decoded(decoded: Decoded, output: &mut [u8], to: usize) -> usize {
 
 fn put_feedback(feedback: SensorFeedback, output: &mut [u8], to: usize) -> usize {
     let at = put_numbered(output, to, b"feedback ", feedback.can_id as u64);
-    let at = put_numbered(output, at, b" ", feedback.status_code as u64);
+    let at = put_next(output, at, feedback.status_code as u64);
     put_measured(
         output,
         at,

@@ -2,6 +2,7 @@
 use crate::print::put_flag;
 use crate::print::put_measured;
 use crate::print::put_name;
+use crate::print::put_next;
 use crate::print::put_numbered;
 use feedback::FeedbackSnapshot;
 use feedback::Latest;
@@ -22,11 +23,14 @@ pub(crate) fn put_session(session: Session, output: &mut [u8], to: usize) -> usi
     let feedback = heard.feedback;
     let latest = feedback.latest;
     let run = session.run;
+    let replies = session.replies;
+    let acks = session.acks;
     let at = put_numbered(output, to, b"session last ", last.0);
     let at = put_numbered(output, at, b" sequence ", feedback.sequence);
     let at = put_flag(output, at, b" run ", is_open(run));
     let at = put_latest(latest, output, at);
-    put_caches(session, output, at)
+    let at = put_entries(b" replies", replies, output, at);
+    put_entries(b" acks", acks, output, at)
 }
 
 fn is_open(run: Run) -> bool {
@@ -46,15 +50,15 @@ fn put_snapshot(snapshot: FeedbackSnapshot, output: &mut [u8], to: usize) -> usi
     let state = snapshot.state;
     let received_at = snapshot.received_at;
     let at = put_numbered(output, to, b" latest ", snapshot.sequence);
-    let at = put_numbered(output, at, b" ", received_at.0);
+    let at = put_next(output, at, received_at.0);
     put_state(state, output, at)
 }
 
 fn put_state(state: MotorFeedbackState, output: &mut [u8], to: usize) -> usize {
     let name = state.status_name;
-    let at = put_numbered(output, to, b" ", state.can_id as u64);
-    let at = put_numbered(output, at, b" ", state.arbitration_id as u64);
-    let at = put_numbered(output, at, b" ", state.status_code as u64);
+    let at = put_next(output, to, state.can_id as u64);
+    let at = put_next(output, at, state.arbitration_id as u64);
+    let at = put_next(output, at, state.status_code as u64);
     let at = put_status_name(name, output, at);
     put_measured(
         output,
@@ -75,18 +79,9 @@ pub(crate) fn put_status_name(name: StatusName, output: &mut [u8], to: usize) ->
     put_name(&bytes, spelled.len as usize, output, at)
 }
 
-fn put_caches(session: Session, output: &mut [u8], to: usize) -> usize {
-    let replies = session.replies;
-    let acks = session.acks;
-    let at = put(output, to, b" replies");
-    let at = put_entries(replies, output, at);
-    let at = put(output, at, b" acks");
-    put_entries(acks, output, at)
-}
-
-// A slot's place is its register's number.
-fn put_entries(slots: [Slot; 82], output: &mut [u8], to: usize) -> usize {
-    let mut at = to;
+// The words and the entries. A slot's place is its register's number.
+fn put_entries(words: &[u8], slots: [Slot; 82], output: &mut [u8], to: usize) -> usize {
+    let mut at = put(output, to, words);
     for rid in 0..82 {
         let slot = slots[rid];
         let entry = slot.entry;
@@ -103,9 +98,9 @@ fn put_entry(rid: u64, entry: Entry, output: &mut [u8], to: usize) -> usize {
 }
 
 fn put_held(rid: u64, value: RegisterValue, stamp: Instant, output: &mut [u8], to: usize) -> usize {
-    let at = put_numbered(output, to, b" ", rid);
+    let at = put_next(output, to, rid);
     let at = put_value(value, output, at);
-    put_numbered(output, at, b" ", stamp.0)
+    put_next(output, at, stamp.0)
 }
 
 fn put_value(value: RegisterValue, output: &mut [u8], to: usize) -> usize {

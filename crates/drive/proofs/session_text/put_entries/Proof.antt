@@ -8,10 +8,13 @@ use Rattle.drive.proofs.session_text.put_entries.Statement.{statement}
 use Rattle.drive.proofs.session_text.put_entries.Tie as tie
 
 abbrev Inv-loop : tie.InvT-loop
-Inv-loop output₀ to slots at₀ rid₀ output at rid = length output ≡ length output₀
+Inv-loop words output₀ to slots at₀ rid₀ output at rid = length output ≡ length output₀
 
 abbrev μ-loop : tie.MeasureT-loop
-μ-loop output₀ to slots at₀ rid₀ output at rid = 82 - rid
+μ-loop words output₀ to slots at₀ rid₀ output at rid = 82 - rid
+
+put-requires : tie.Need-put-requires Inv-loop μ-loop
+put-requires c κs = search needs
 
 loop-holds : tie.Need-loop-holds Inv-loop μ-loop
 loop-holds c = omega arith
@@ -46,6 +49,7 @@ put-entries-spec =
     (tie.spec
     Inv-loop
     μ-loop
+    put-requires
     loop-holds
     mul-slot
     array-copy-out-slot
