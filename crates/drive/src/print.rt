@@ -1,4 +1,6 @@
 // Pieces of answers.
+use received::status::StatusName;
+use received::status::status_text;
 use text::put;
 use text::put_decimal;
 use text::put_hex;
@@ -53,4 +55,12 @@ pub(crate) fn put_name(bytes: &[u8], len: usize, output: &mut [u8], to: usize) -
         return put(output, to, &bytes[0..len]);
     }
     to
+}
+
+// A space and the name of a status.
+pub(crate) fn put_status_name(name: StatusName, output: &mut [u8], to: usize) -> usize {
+    let spelled = status_text(name);
+    let bytes = spelled.bytes;
+    let at = put(output, to, b" ");
+    put_name(&bytes, spelled.len as usize, output, at)
 }

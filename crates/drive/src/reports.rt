@@ -5,7 +5,7 @@ use crate::print::put_measured;
 use crate::print::put_next;
 use crate::print::put_numbered;
 use crate::print::put_refused;
-use crate::session_text::put_status_name;
+use crate::print::put_status_name;
 use received::feedback::Decoded;
 use received::feedback::FrameClass;
 use received::feedback::SensorFeedback;

@@ -1,14 +1,13 @@
 // A session as a line.
 use crate::print::put_flag;
 use crate::print::put_measured;
-use crate::print::put_name;
 use crate::print::put_next;
 use crate::print::put_numbered;
+use crate::print::put_status_name;
 use feedback::FeedbackSnapshot;
 use feedback::Latest;
 use feedback::MotorFeedbackState;
 use motor_core::time::Instant;
-use received::status::StatusName;
 use registers::RegisterValue;
 use session::Run;
 use session::Session;
@@ -69,14 +68,6 @@ fn put_state(state: MotorFeedbackState, output: &mut [u8], to: usize) -> usize {
         state.t_mos,
         state.t_rotor,
     )
-}
-
-// A space and the name.
-pub(crate) fn put_status_name(name: StatusName, output: &mut [u8], to: usize) -> usize {
-    let spelled = received::status::status_text(name);
-    let bytes = spelled.bytes;
-    let at = put(output, to, b" ");
-    put_name(&bytes, spelled.len as usize, output, at)
 }
 
 // The words and the entries. A slot's place is its register's number.

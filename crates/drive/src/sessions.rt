@@ -41,7 +41,7 @@ pub(crate) fn unstarted() -> State {
     }
 }
 
-// A call up to `calls::SESSION`.
+// A start, or a call on the session: a code up to `calls::SESSION`.
 pub(crate) fn answer(state: State, call: Call, line: &[u8]) -> Step {
     let code = call.code;
     if code <= calls::START_MODEL {
@@ -140,7 +140,7 @@ fn patch(session: Session, call: Call) -> Step {
     in_use(after, Reply::Patched(done.patched))
 }
 
-// The calls that leave the session as it is.
+// The calls that leave the session as it is, and those whose engine is to come.
 fn look(heard: Heard, call: Call) -> Reply {
     let code = call.code;
     match code {
@@ -155,7 +155,6 @@ fn accepts(heard: Heard, call: Call) -> Reply {
     Reply::Accepts(accepts_frame(heard, frame_of(a[0], a[1], a[2], a[3])))
 }
 
-// The calls whose engine is to come.
 fn not_built() -> Reply {
     Reply::NotBuilt
 }
