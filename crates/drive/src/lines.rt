@@ -2,6 +2,7 @@
 // is much of it.
 use crate::answer;
 use crate::replies::put_line;
+use crate::session_text::put_state;
 use crate::sessions;
 use crate::sessions::State;
 use crate::sessions::unstarted;
@@ -92,13 +93,15 @@ fn whole_lines(
         let line = &chunk[from..end];
         let call = call_of(line, long);
         at = write_if_full(output, at);
-        if call.code <= calls::SESSION {
+        let code = call.code;
+        if code < calls::SESSION {
             let step = sessions::answer(state, call, line);
             let reply = step.reply;
             let after = step.state;
-            let session = after.session;
             state = after;
-            at = put_line(reply, session, output, at);
+            at = put_line(reply, output, at);
+        } else if code == calls::SESSION {
+            at = put_state(state, output, at);
         } else {
             at = answer::answer_call(call, output, at);
         }

@@ -1,8 +1,6 @@
 // What a call on the session is told.
 use crate::print::put_flag;
 use crate::print::put_refused;
-use crate::session_text::put_session;
-use session::Session;
 use text::put;
 
 pub(crate) enum Reply {
@@ -13,17 +11,15 @@ pub(crate) enum Reply {
     Taken,
     Accepts(bool),
     Patched(bool),
-    // The session is printed.
-    Session,
 }
 
-// The reply with its newline; the session is the one after the call.
-pub(crate) fn put_line(reply: Reply, session: Session, output: &mut [u8], to: usize) -> usize {
-    let at = put_reply(reply, session, output, to);
+// The reply with its newline.
+pub(crate) fn put_line(reply: Reply, output: &mut [u8], to: usize) -> usize {
+    let at = put_reply(reply, output, to);
     put(output, at, b"\n")
 }
 
-fn put_reply(reply: Reply, session: Session, output: &mut [u8], to: usize) -> usize {
+fn put_reply(reply: Reply, output: &mut [u8], to: usize) -> usize {
     match reply {
         Reply::NoSession => put(output, to, b"no session"),
         Reply::NotBuilt => put(output, to, b"not built"),
@@ -32,6 +28,5 @@ fn put_reply(reply: Reply, session: Session, output: &mut [u8], to: usize) -> us
         Reply::Taken => put(output, to, b"taken"),
         Reply::Accepts(flag) => put_flag(output, to, b"accepts ", flag),
         Reply::Patched(flag) => put_flag(output, to, b"patched ", flag),
-        Reply::Session => put_session(session, output, to),
     }
 }

@@ -1,9 +1,12 @@
-// A session as a line.
+// The answer to the call `session`.
 use crate::print::put_flag;
 use crate::print::put_measured;
 use crate::print::put_next;
 use crate::print::put_numbered;
 use crate::print::put_status_name;
+use crate::replies::Reply;
+use crate::replies::put_line;
+use crate::sessions::State;
 use feedback::FeedbackSnapshot;
 use feedback::Latest;
 use feedback::MotorFeedbackState;
@@ -16,7 +19,17 @@ use session::cache::Slot;
 use text::put;
 use text::put_hex;
 
-pub(crate) fn put_session(session: Session, output: &mut [u8], to: usize) -> usize {
+// The session in use, with its newline.
+pub(crate) fn put_state(state: State, output: &mut [u8], to: usize) -> usize {
+    if !state.is_started {
+        return put_line(Reply::NoSession, output, to);
+    }
+    let session = state.session;
+    let at = put_session(session, output, to);
+    put(output, at, b"\n")
+}
+
+fn put_session(session: Session, output: &mut [u8], to: usize) -> usize {
     let heard = session.heard;
     let last = heard.last;
     let feedback = heard.feedback;
@@ -50,10 +63,10 @@ fn put_snapshot(snapshot: FeedbackSnapshot, output: &mut [u8], to: usize) -> usi
     let received_at = snapshot.received_at;
     let at = put_numbered(output, to, b" latest ", snapshot.sequence);
     let at = put_next(output, at, received_at.0);
-    put_state(state, output, at)
+    put_feedback_state(state, output, at)
 }
 
-fn put_state(state: MotorFeedbackState, output: &mut [u8], to: usize) -> usize {
+fn put_feedback_state(state: MotorFeedbackState, output: &mut [u8], to: usize) -> usize {
     let name = state.status_name;
     let at = put_next(output, to, state.can_id as u64);
     let at = put_next(output, at, state.arbitration_id as u64);

@@ -1,4 +1,4 @@
-// The calls on the session.
+// The calls on the session, but for the one that prints it.
 use crate::fields::low8;
 use crate::fields::low16;
 use crate::fields::low32;
@@ -41,7 +41,7 @@ pub(crate) fn unstarted() -> State {
     }
 }
 
-// A start, or a call on the session: a code up to `calls::SESSION`.
+// A start, or a call on the session: a code below `calls::SESSION`.
 pub(crate) fn answer(state: State, call: Call, line: &[u8]) -> Step {
     let code = call.code;
     if code <= calls::START_MODEL {
@@ -142,12 +142,10 @@ fn patch(session: Session, call: Call) -> Step {
 
 // The calls that leave the session as it is, and those whose engine is to come.
 fn look(heard: Heard, call: Call) -> Reply {
-    let code = call.code;
-    match code {
-        calls::ACCEPTS => accepts(heard, call),
-        calls::SESSION => Reply::Session,
-        _ => not_built(),
+    if call.code == calls::ACCEPTS {
+        return accepts(heard, call);
     }
+    not_built()
 }
 
 fn accepts(heard: Heard, call: Call) -> Reply {

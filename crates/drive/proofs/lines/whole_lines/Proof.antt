@@ -41,6 +41,9 @@ answer-requires c κs = search needs
 put-line-requires : tie.Need-put-line-requires Inv-loop μ-loop
 put-line-requires c κs = search needs
 
+put-state-requires : tie.Need-put-state-requires Inv-loop μ-loop
+put-state-requires c κs = search needs
+
 answer-call-requires : tie.Need-answer-call-requires Inv-loop μ-loop
 answer-call-requires c κs = search needs
 
@@ -52,7 +55,9 @@ loop-less c = omega arith
 
 loop-again : tie.Need-loop-again Inv-loop μ-loop
 loop-again c =
-    ⊎-elim (λ w. omega (arith, w .5 .kept .1, ap length (w .8))) (λ w. omega (arith, w .2 .kept .1, ap length (w .5))) (c .if2 .came)
+    ⊎-elim (λ w. omega (arith, w .4 .kept .1, ap length (w .7)))
+    (⊎-elim (λ w. omega (arith, w .3 .kept .1, ap length (w .6))) (λ w. omega (arith, w .3 .kept .1, ap length (w .6))))
+    (c .if2 .came)
 
 same-length : tie.Need-same-length Inv-loop μ-loop
 same-length c = omega arith
@@ -81,6 +86,7 @@ whole-lines-spec =
     write-if-full-requires
     answer-requires
     put-line-requires
+    put-state-requires
     answer-call-requires
     add-from
     loop-less
