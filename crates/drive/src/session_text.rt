@@ -12,6 +12,7 @@ use feedback::Latest;
 use feedback::MotorFeedbackState;
 use motor_core::time::Instant;
 use registers::RegisterValue;
+use session::Heard;
 use session::Run;
 use session::Session;
 use session::cache::Entry;
@@ -31,18 +32,22 @@ pub(crate) fn put_state(state: State, output: &mut [u8], to: usize) -> usize {
 
 fn put_session(session: Session, output: &mut [u8], to: usize) -> usize {
     let heard = session.heard;
-    let last = heard.last;
-    let feedback = heard.feedback;
-    let latest = feedback.latest;
     let run = session.run;
     let replies = session.replies;
     let acks = session.acks;
+    let at = put_heard(heard, run, output, to);
+    let at = put_entries(b" replies", replies, output, at);
+    put_entries(b" acks", acks, output, at)
+}
+
+fn put_heard(heard: Heard, run: Run, output: &mut [u8], to: usize) -> usize {
+    let last = heard.last;
+    let feedback = heard.feedback;
+    let latest = feedback.latest;
     let at = put_numbered(output, to, b"session last ", last.0);
     let at = put_numbered(output, at, b" sequence ", feedback.sequence);
     let at = put_flag(output, at, b" run ", is_open(run));
-    let at = put_latest(latest, output, at);
-    let at = put_entries(b" replies", replies, output, at);
-    put_entries(b" acks", acks, output, at)
+    put_latest(latest, output, at)
 }
 
 fn is_open(run: Run) -> bool {
