@@ -1,5 +1,5 @@
 #!/bin/sh
-# Builds the oracle and compares a drive with it: compare.sh DRIVE [LINES [KINDS [SEED]]]
+# Builds the oracle and compares a drive with it: compare.sh DRIVE [LINES [KINDS [SEED [WITHOUT]]]]
 # DRIVE is a program that answers the line script from its standard input.
 set -eu
 [ $# -ge 1 ] || { sed -n 2,3p "$0" >&2; exit 2; }
@@ -11,4 +11,4 @@ esac
 cargo build --release --offline --quiet --manifest-path "$here/Cargo.toml"
 exec "$here/target/release/oracle" compare --drive "exec '$drive'" \
     --lines "${2:-1000000}" --kinds "${3:-all}" --seed "${4:-1}" \
-    --keep "$here/target/differs.script"
+    --without "${5:-}" --keep "$here/target/differs.script"

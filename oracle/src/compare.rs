@@ -2,7 +2,7 @@
 
 use crate::lines::answer_lines;
 use crate::parser::{self, Line};
-use crate::random::{self, Chunk, Family};
+use crate::random::{self, Chunk, Recipe};
 use std::io::{self, Read, Write};
 use std::process::{Command, Stdio};
 use std::sync::mpsc::sync_channel;
@@ -14,8 +14,9 @@ pub struct Comparison {
     pub drive: String,
     pub seed: u64,
     pub lines: u64,
-    pub kinds: String,
-    pub families: Vec<Family>,
+    pub recipe: Recipe,
+    /// The options that name the recipe.
+    pub named: String,
     pub chunk: u64,
     /// Where the script of a chunk that differs is left.
     pub keep: Option<String>,
@@ -37,7 +38,7 @@ pub fn compare(comparison: &Comparison) -> Result<(), String> {
             let mut seed = comparison.seed;
             while left > 0 {
                 let lines = left.min(comparison.chunk.max(1));
-                let chunk = random::chunk(seed, lines, &comparison.families);
+                let chunk = random::chunk(seed, lines, &comparison.recipe);
                 if give.send(Made { seed, lines, chunk }).is_err() {
                     return;
                 }
@@ -48,7 +49,7 @@ pub fn compare(comparison: &Comparison) -> Result<(), String> {
         let mut compared = 0;
         for made in take {
             one_chunk(comparison, &made)?;
-            compared += made.lines;
+            compared += made.chunk.lines;
             let rate = compared as f64 / begun.elapsed().as_secs_f64();
             eprintln!("{compared} lines compared, {rate:.0} lines per second");
         }
@@ -73,8 +74,8 @@ fn one_chunk(comparison: &Comparison, made: &Made) -> Result<(), String> {
         report += &format!("the drive ended with {ended}\n");
     }
     Err(format!(
-        "{report}the script again: random --seed {} --lines {} --kinds {}",
-        made.seed, made.lines, comparison.kinds
+        "{report}the script again: random --seed {} --lines {} {}",
+        made.seed, made.lines, comparison.named
     ))
 }
 

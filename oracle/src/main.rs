@@ -15,13 +15,14 @@ mod tests;
 
 use compare::Comparison;
 use oracle::Oracle;
+use random::Recipe;
 use std::collections::HashMap;
 use std::io;
 use std::process::ExitCode;
 
 const USAGE: &str = "usage: oracle run < SCRIPT > ANSWERS
-       oracle random --seed S --lines N --kinds LIST --script FILE --answers FILE
-       oracle compare --drive CMD --seed S --lines N --kinds LIST [--chunk N] [--keep FILE]
+       oracle random --seed S --lines N --kinds LIST [--without LIST] --script FILE --answers FILE
+       oracle compare --drive CMD --seed S --lines N --kinds LIST [--without LIST] [--chunk N] [--keep FILE]
 kinds: all, stateless, frames-out, frames-in, models, tables, sessions, runs, mode, bad";
 
 fn main() -> ExitCode {
@@ -32,10 +33,18 @@ fn main() -> ExitCode {
     };
     let done = match command {
         "run" => Options::read(rest, &[]).and_then(|_| run()),
-        "random" => Options::read(rest, &["seed", "lines", "kinds", "script", "answers"])
-            .and_then(|options| random_script(&options)),
-        "compare" => Options::read(rest, &["drive", "seed", "lines", "kinds", "chunk", "keep"])
-            .and_then(|options| compare_with(&options)),
+        "random" => Options::read(
+            rest,
+            &["seed", "lines", "kinds", "without", "script", "answers"],
+        )
+        .and_then(|options| random_script(&options)),
+        "compare" => Options::read(
+            rest,
+            &[
+                "drive", "seed", "lines", "kinds", "without", "chunk", "keep",
+            ],
+        )
+        .and_then(|options| compare_with(&options)),
         _ => Err(USAGE.to_string()),
     };
     match done {
@@ -85,10 +94,18 @@ fn run() -> Result<(), String> {
         .map_err(|error| error.to_string())
 }
 
+fn recipe(options: &Options) -> Result<Recipe, String> {
+    let without = options.0.get("without").map_or("", String::as_str);
+    Ok(Recipe {
+        families: random::families(options.text("kinds")?)?,
+        without: without.split(',').map(str::to_string).collect(),
+    })
+}
+
 fn random_script(options: &Options) -> Result<(), String> {
-    let families = random::families(options.text("kinds")?)?;
+    let recipe = recipe(options)?;
     let (script, answers) = (options.text("script")?, options.text("answers")?);
-    let chunk = random::chunk(options.number("seed")?, options.number("lines")?, &families);
+    let chunk = random::chunk(options.number("seed")?, options.number("lines")?, &recipe);
     for (file, bytes) in [(script, &chunk.script), (answers, &chunk.answers)] {
         std::fs::write(file, bytes).map_err(|error| format!("{file}: {error}"))?;
     }
@@ -96,13 +113,16 @@ fn random_script(options: &Options) -> Result<(), String> {
 }
 
 fn compare_with(options: &Options) -> Result<(), String> {
-    let kinds = options.text("kinds")?.to_string();
+    let mut named = format!("--kinds {}", options.text("kinds")?);
+    if let Some(without) = options.0.get("without") {
+        named += &format!(" --without {without}");
+    }
     compare::compare(&Comparison {
         drive: options.text("drive")?.to_string(),
         seed: options.number("seed")?,
         lines: options.number("lines")?,
-        families: random::families(&kinds)?,
-        kinds,
+        recipe: recipe(options)?,
+        named,
         chunk: match options.0.contains_key("chunk") {
             true => options.number("chunk")?,
             false => 200_000,

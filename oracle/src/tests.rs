@@ -1,6 +1,7 @@
 //! Scripts with the answers that the papers and the original's files lead one to expect.
 
 use crate::oracle::Oracle;
+use crate::random::Recipe;
 use crate::{lines, random};
 
 /// Runs lines of the form `CALL => ANSWER`; lines without an arrow are passed over.
@@ -363,9 +364,12 @@ fn random_scripts_are_answered_alike_when_run() {
         "all",
     ];
     for (seed, kinds) in kinds.into_iter().enumerate() {
-        let families = random::families(kinds).expect("kinds");
-        let chunk = random::chunk(seed as u64, 20_000, &families);
-        let again = random::chunk(seed as u64, 20_000, &families);
+        let recipe = Recipe {
+            families: random::families(kinds).expect("kinds"),
+            without: Vec::new(),
+        };
+        let chunk = random::chunk(seed as u64, 20_000, &recipe);
+        let again = random::chunk(seed as u64, 20_000, &recipe);
         assert!(chunk.script == again.script && chunk.answers == again.answers);
         let mut oracle = Oracle::default();
         let (mut answers, mut lines) = (Vec::new(), 0);
@@ -378,6 +382,28 @@ fn random_scripts_are_answered_alike_when_run() {
         assert!(answers == chunk.answers, "{kinds}");
     }
     assert!(random::families("stateless,nothing").is_err());
+}
+
+#[test]
+fn random_scripts_leave_out_calls() {
+    let recipe = Recipe {
+        families: random::families("sessions").expect("kinds"),
+        without: vec!["frame-lent".to_string()],
+    };
+    let chunk = random::chunk(1, 20_000, &recipe);
+    let mut oracle = Oracle::default();
+    let (mut answers, mut lines, mut lent) = (Vec::new(), 0, 0);
+    lines::answer_lines(chunk.script.as_slice(), &mut answers, |line, out| {
+        lines += 1;
+        if oracle.session().is_some() && line.starts_with(b"frame-lent ") {
+            lent += 1;
+        }
+        oracle.line(line, out)
+    })
+    .expect("no input or output fails");
+    assert_eq!((lines, lent), (chunk.lines, 0));
+    assert!(10_000 < lines && lines < 19_000);
+    assert!(answers == chunk.answers);
 }
 
 #[test]

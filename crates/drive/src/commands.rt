@@ -4,11 +4,12 @@ use crate::fields::low8;
 use crate::fields::low16;
 use crate::fields::low32;
 use crate::fields::real;
+use crate::print::put_numbered;
+use crate::print::put_refused;
 use frame::Command;
 use script::Call;
 use script::calls;
 use text::put;
-use text::put_decimal;
 use text::put_hex;
 
 // The frame that a call of a command makes.
@@ -54,13 +55,7 @@ pub(crate) fn put_command(command: Command, output: &mut [u8], to: usize) -> usi
 }
 
 fn put_frame(id: u32, data: u64, output: &mut [u8], to: usize) -> usize {
-    let at = put(output, to, b"frame ");
-    let at = put_decimal(output, at, id as u64);
+    let at = put_numbered(output, to, b"frame ", id as u64);
     let at = put(output, at, b" ");
     put_hex(output, at, data, 16)
-}
-
-pub(crate) fn put_refused(number: u8, output: &mut [u8], to: usize) -> usize {
-    let at = put(output, to, b"refused ");
-    put_decimal(output, at, number as u64)
 }

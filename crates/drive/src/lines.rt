@@ -1,21 +1,29 @@
 // The lines of the input, however it is cut by the reads, and the output, which is kept until there
 // is much of it.
-use crate::answer::answer_line;
-use crate::answer::bad_line;
+use crate::answer;
+use crate::replies::put_line;
+use crate::session_text::put_state;
+use crate::sessions;
+use crate::sessions::State;
+use crate::sessions::unstarted;
 use libc::STDIN_FILENO;
 use libc::STDOUT_FILENO;
+use script::Call;
 use script::MAX_LINE;
+use script::calls;
 ghost use Prim.Native.Nat.{_+_, _≤_};
 ghost use lib.ListN.{length};
 
-// The output is written once it has so many bytes. The rest of its buffer has room for any answer.
+// The output is written once it has so many bytes. The rest of its buffer has room for any answer;
+// the longest, a session that holds every entry, has 4,045 bytes.
 const FULL: usize = 49_152;
 
 // After the whole lines of a text: where the unfinished line starts, whether it is the rest of one
-// that is too long, and where the output goes on.
+// that is too long, the session in use, and where the output goes on.
 struct Progress {
     from: usize,
     is_long: bool,
+    state: State,
     to: usize,
 }
 
@@ -31,6 +39,7 @@ struct Unfinished {
 pub(crate) fn run(input: &mut [u8], output: &mut [u8]) {
     let mut held = 0;
     let mut is_long = false;
+    let mut state = unstarted();
     let mut to = 0;
     let mut turns = u64::MAX;
     while turns > 0 {
@@ -38,14 +47,16 @@ pub(crate) fn run(input: &mut [u8], output: &mut [u8]) {
         if end <= held {
             break;
         }
-        let done = whole_lines(&input[0..end], is_long, output, to);
+        let done = whole_lines(&input[0..end], is_long, state, output, to);
         let rest = keep_rest(input, done.from, end, done.is_long);
+        let after = done.state;
+        state = after;
         to = done.to;
         held = rest.held;
         is_long = rest.is_long;
         turns -= 1;
     }
-    let end = last_line(input, held, is_long, output, to);
+    let end = last_line(input, held, is_long, state, output, to);
     write_out(output, end);
 }
 
@@ -61,41 +72,75 @@ fn read_after(input: &mut [u8], held: usize) -> usize
     held + n
 }
 
-// Answers each line of `chunk` that ends in a newline. The first may be the rest of a long one.
-fn whole_lines(chunk: &[u8], is_long: bool, output: &mut [u8], to: usize) -> Progress {
+// Answers each line of `chunk` that ends in a newline. The first may be the rest of a long one. The
+// session is large, so that only the calls on it copy it.
+fn whole_lines(
+    chunk: &[u8],
+    is_long: bool,
+    state: State,
+    output: &mut [u8],
+    to: usize,
+) -> Progress {
     let mut from = 0;
     let mut long = is_long;
+    let mut state = state;
     let mut at = to;
     while from < chunk.len() {
         let end = words::index_of(chunk, from, b'\n');
         if end >= chunk.len() {
             break;
         }
-        at = one_line(&chunk[from..end], long, output, at);
+        let line = &chunk[from..end];
+        let call = call_of(line, long);
+        at = write_if_full(output, at);
+        let code = call.code;
+        if code < calls::SESSION {
+            let step = sessions::answer(state, call, line);
+            let reply = step.reply;
+            let after = step.state;
+            state = after;
+            at = put_line(reply, output, at);
+        } else if code == calls::SESSION {
+            at = put_state(state, output, at);
+        } else {
+            at = answer::answer_call(call, output, at);
+        }
         long = false;
         from = end + 1;
     }
     Progress {
         from,
         is_long: long,
+        state,
         to: at,
     }
 }
 
-fn one_line(line: &[u8], is_long: bool, output: &mut [u8], to: usize) -> usize {
-    let at = write_if_full(output, to);
+fn call_of(line: &[u8], is_long: bool) -> Call {
     if is_long {
-        return bad_line(output, at);
+        return Call {
+            code: calls::BAD,
+            args: [0u64; 9],
+        };
     }
-    answer_line(line, output, at)
+    script::parse(line)
 }
 
-// Answers the last line, which no newline ends.
-fn last_line(input: &[u8], held: usize, is_long: bool, output: &mut [u8], to: usize) -> usize {
-    if held <= input.len() {
-        return one_line(&input[0..held], is_long, output, to);
+// Answers the last line, which no newline ends: one is put after it.
+fn last_line(
+    input: &mut [u8],
+    held: usize,
+    is_long: bool,
+    state: State,
+    output: &mut [u8],
+    to: usize,
+) -> usize {
+    if held >= input.len() {
+        return to;
     }
-    to
+    input[held] = b'\n';
+    let done = whole_lines(&input[0..held + 1], is_long, state, output, to);
+    done.to
 }
 
 // Keeps the unfinished line, from `from` to `end`.

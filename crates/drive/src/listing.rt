@@ -1,7 +1,7 @@
 // The calls on the list of models.
-use crate::commands::put_refused;
 use crate::fields::real;
-use crate::reports::put_name;
+use crate::print::put_name;
+use crate::print::put_refused;
 use matching::match_models_by_limits;
 use model_query::Listing;
 use model_query::Outcome;

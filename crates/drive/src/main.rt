@@ -4,7 +4,11 @@ mod commands;
 mod fields;
 mod lines;
 mod listing;
+mod print;
+mod replies;
 mod reports;
+mod session_text;
+mod sessions;
 
 fn main() {
     let mut input = io::large_buffer();

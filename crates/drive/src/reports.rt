@@ -1,7 +1,11 @@
 // The calls on what a frame says, and on the tables of status names and registers.
-use crate::commands::put_refused;
 use crate::fields::low8;
 use crate::fields::real;
+use crate::print::put_measured;
+use crate::print::put_next;
+use crate::print::put_numbered;
+use crate::print::put_refused;
+use crate::print::put_status_name;
 use received::feedback::Decoded;
 use received::feedback::FrameClass;
 use received::feedback::SensorFeedback;
@@ -11,8 +15,6 @@ use registers::RegisterInfo;
 use script::Call;
 use script::calls;
 use text::put;
-use text::put_decimal;
-use text::put_hex;
 
 pub(crate) fn answer(call: Call, output: &mut [u8], to: usize) -> usize {
     let code = call.code;
@@ -42,26 +44,17 @@ fn put_decoded(decoded: Decoded, output: &mut [u8], to: usize) -> usize {
 }
 
 fn put_feedback(feedback: SensorFeedback, output: &mut [u8], to: usize) -> usize {
-    let at = put(output, to, b"feedback ");
-    let at = put_decimal(output, at, feedback.can_id as u64);
-    let at = put(output, at, b" ");
-    let at = put_decimal(output, at, feedback.status_code as u64);
-    put_measured(feedback, output, at)
-}
-
-fn put_measured(feedback: SensorFeedback, output: &mut [u8], to: usize) -> usize {
-    let at = put_real(output, to, feedback.pos);
-    let at = put_real(output, at, feedback.vel);
-    let at = put_real(output, at, feedback.torq);
-    let at = put_real(output, at, feedback.t_mos);
-    put_real(output, at, feedback.t_rotor)
-}
-
-// A space and the float's bits.
-fn put_real(output: &mut [u8], to: usize, x: f32) -> usize {
-    let pattern = float::to_bits(x);
-    let at = put(output, to, b" ");
-    put_hex(output, at, pattern.0 as u64, 8)
+    let at = put_numbered(output, to, b"feedback ", feedback.can_id as u64);
+    let at = put_next(output, at, feedback.status_code as u64);
+    put_measured(
+        output,
+        at,
+        feedback.pos,
+        feedback.vel,
+        feedback.torq,
+        feedback.t_mos,
+        feedback.t_rotor,
+    )
 }
 
 fn put_class(class: FrameClass, output: &mut [u8], to: usize) -> usize {
@@ -73,18 +66,8 @@ fn put_class(class: FrameClass, output: &mut [u8], to: usize) -> usize {
 }
 
 fn put_status(status: u8, output: &mut [u8], to: usize) -> usize {
-    let name = received::status::status_text(received::status::status_name(status));
-    let bytes = name.bytes;
-    let at = put(output, to, b"status ");
-    put_name(&bytes, name.len as usize, output, at)
-}
-
-// The first `len` bytes of a name.
-pub(crate) fn put_name(bytes: &[u8], len: usize, output: &mut [u8], to: usize) -> usize {
-    if len <= bytes.len() {
-        return put(output, to, &bytes[0..len]);
-    }
-    to
+    let at = put(output, to, b"status");
+    put_status_name(received::status::status_name(status), output, at)
 }
 
 fn put_register(info: RegisterInfo, output: &mut [u8], to: usize) -> usize {

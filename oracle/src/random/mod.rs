@@ -10,6 +10,7 @@ mod text;
 mod values;
 
 use crate::oracle::Oracle;
+use crate::parser::{self, Line};
 use crate::session::Session;
 pub use rng::mixed;
 use rng::Rng;
@@ -58,24 +59,33 @@ pub fn families(list: &str) -> Result<Vec<Family>, String> {
     Ok(families)
 }
 
+/// What a script is made of.
+pub struct Recipe {
+    pub families: Vec<Family>,
+    /// Calls by their words: once a session has started they are left out.
+    pub without: Vec<String>,
+}
+
 /// A script with its answers.
 pub struct Chunk {
     pub script: Vec<u8>,
     pub answers: Vec<u8>,
+    pub lines: u64,
 }
 
-/// A script of this many lines, which begins without a session.
-pub fn chunk(seed: u64, lines: u64, families: &[Family]) -> Chunk {
+/// A script of this many lines, but for those that are left out. It begins without a session.
+pub fn chunk(seed: u64, lines: u64, recipe: &Recipe) -> Chunk {
     let mut rng = Rng::new(seed);
     let mut generator = Generator {
         runs: Runs::new(&mut rng),
         rng,
         oracle: Oracle::default(),
-        families,
+        recipe,
     };
     let mut chunk = Chunk {
         script: Vec::with_capacity(lines as usize * 40),
         answers: Vec::with_capacity(lines as usize * 30),
+        lines: 0,
     };
     let mut made = 0;
     while made < lines {
@@ -83,10 +93,14 @@ pub fn chunk(seed: u64, lines: u64, families: &[Family]) -> Chunk {
         let burst = generator.burst(family);
         for _ in 0..burst.min(lines - made) {
             let line = generator.line(family);
+            made += 1;
+            if generator.leaves_out(&line) {
+                continue;
+            }
             generator.oracle.line(&line, &mut chunk.answers);
             chunk.script.extend_from_slice(&line);
             chunk.script.push(b'\n');
-            made += 1;
+            chunk.lines += 1;
         }
     }
     // Now and then the last line has no newline; an empty line would then be none.
@@ -100,12 +114,24 @@ struct Generator<'a> {
     rng: Rng,
     oracle: Oracle,
     runs: Runs,
-    families: &'a [Family],
+    recipe: &'a Recipe,
 }
 
 impl Generator<'_> {
     fn family(&mut self) -> Family {
-        self.rng.pick(self.families)
+        self.rng.pick(&self.recipe.families)
+    }
+
+    /// Whether a line is a call that the recipe does without. A bad line with the call's word is none.
+    fn leaves_out(&self, line: &[u8]) -> bool {
+        let word = line.split(|byte| *byte == b' ').next().unwrap_or_default();
+        self.oracle.session().is_some()
+            && self
+                .recipe
+                .without
+                .iter()
+                .any(|call| call.as_bytes() == word)
+            && matches!(parser::parse(line), Line::Call(_))
     }
 
     /// How many lines of a family stand together. Runs want many.

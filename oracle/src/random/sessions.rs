@@ -33,6 +33,33 @@ pub fn start(rng: &mut Rng) -> Vec<u8> {
     }
 }
 
+/// A start that is refused, for one reason or for two: the session in use goes on.
+fn refused_start(rng: &mut Rng) -> Vec<u8> {
+    let motor: u16 = rng.pick(&[1, 0xFCFF, 0xFD00, 0xFFFF]);
+    if rng.chance(50) {
+        return Text::new("start-model")
+            .word(b"4340X")
+            .number(rng, motor)
+            .number(rng, 0x11u16)
+            .bytes;
+    }
+    let mut limits = values::limits(rng);
+    let at = rng.below(3) as usize;
+    limits[at] = rng.pick(&[
+        0,
+        0x3A7F_FFFF,
+        0x4780_0001,
+        0x7F80_0000,
+        0x7FC0_0000,
+        0xC148_0000,
+    ]);
+    Text::new("start-limits")
+        .number(rng, motor)
+        .number(rng, 0x11u16)
+        .floats(rng, &limits)
+        .bytes
+}
+
 /// A model's name, or something like one.
 fn model_name(rng: &mut Rng) -> Vec<u8> {
     let at = rng.below(16) as usize;
@@ -136,22 +163,25 @@ pub fn patch(rng: &mut Rng) -> Vec<u8> {
         .bytes
 }
 
-/// Any line of this family, for a session that has started.
+/// Any line of this family, for a session that has started. Those with an even feedback id last long, so
+/// that their caches fill.
 pub fn line(rng: &mut Rng, session: &Session) -> Vec<u8> {
     if session.last() > LAST_READING / 2 && rng.chance(10) {
         return start(rng);
     }
+    let brief = session.feedback_id() % 2 == 1;
     match rng.below(40) {
-        0 => start(rng),
+        0 if brief || rng.chance(10) => start(rng),
         1..=6 => accepts(rng, session),
         7..=10 => patch(rng),
         11..=15 => b"session".to_vec(),
-        16 if rng.chance(3) => {
+        16 if brief && rng.chance(10) => {
             // A leap to the end of the clock.
             let data = values::data(rng);
             let reading = LAST_READING - rng.below(2);
             frame_with(rng, session, reading, data)
         }
+        17 if rng.chance(15) => refused_start(rng),
         _ => frame(rng, session),
     }
 }

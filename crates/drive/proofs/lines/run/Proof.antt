@@ -8,10 +8,14 @@ use Rattle.drive.proofs.lines.run.Statement.{statement}
 use Rattle.drive.proofs.lines.run.Tie as tie
 
 abbrev Inv-loop : tie.InvT-loop
-Inv-loop input₀ output₀ held₀ is-long₀ to₀ turns₀ input output held is-long to turns = (length input ≡ length input₀) × (length output ≡ length output₀)
+Inv-loop input₀ output₀ held₀ is-long₀ state₀ to₀ turns₀ input output held is-long state to turns =
+    (length input ≡ length input₀) × (length output ≡ length output₀)
 
 abbrev μ-loop : tie.MeasureT-loop
-μ-loop input₀ output₀ held₀ is-long₀ to₀ turns₀ input output held is-long to turns = turns
+μ-loop input₀ output₀ held₀ is-long₀ state₀ to₀ turns₀ input output held is-long state to turns = turns
+
+unstarted-requires : tie.Need-unstarted-requires Inv-loop μ-loop
+unstarted-requires c κs = search needs
 
 loop-holds : tie.Need-loop-holds Inv-loop μ-loop
 loop-holds c = search needs
@@ -51,9 +55,10 @@ write-out-requires c κs = search needs
 
 same-length : tie.Need-same-length Inv-loop μ-loop
 same-length c =
-    let left = c .before .before .before .before .before .before .before .loop-test in
-    let here = c .before .before .before .before .before .before .before .before .loop in
-    ⊎-elim (λ w. omega (arith, here .inv .0, ap length (w .1))) (λ w. omega (arith, here .inv .0, w .2 .kept .0, ap length (w .6))) (left .came)
+    let last = c .before .before .before .before .before .before .last-line in
+    let left = c .before .before .before .before .before .before .before .before .before .loop-test in
+    let here = c .before .before .before .before .before .before .before .before .before .before .loop in
+    ⊎-elim (λ w. omega (arith, last .kept .0, here .inv .0, ap length (w .1))) (λ w. omega (arith, last .kept .0, here .inv .0, w .2 .kept .0, ap length (w .6))) (left .came)
 
 same-length-2 : tie.Need-same-length-2 Inv-loop μ-loop
 same-length-2 c = search needs
@@ -67,6 +72,7 @@ run-spec =
     (tie.spec
     Inv-loop
     μ-loop
+    unstarted-requires
     loop-holds
     read-after-requires
     sub-whole-lines

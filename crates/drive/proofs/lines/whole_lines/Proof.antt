@@ -1,6 +1,7 @@
 -- `drive::lines::whole_lines` is safe and ends: each turn passes a newline. Assumes nothing.
 use Prim.Native.Nat.{_-_}
-use mathlib.Core.Path.{_≡_, refl}
+use mathlib.Core.Path.{_≡_, refl, ap}
+use mathlib.Core.Logic.{⊎-elim}
 use native.Mathlib.Omega.{arith}
 use lib.ListN.{length}
 use borrow.Author.Needs.{needs}
@@ -8,10 +9,10 @@ use Rattle.drive.proofs.lines.whole_lines.Statement.{statement}
 use Rattle.drive.proofs.lines.whole_lines.Tie as tie
 
 abbrev Inv-loop : tie.InvT-loop
-Inv-loop chunk is-long output₀ to from₀ long₀ at₀ output from long at = length output ≡ length output₀
+Inv-loop chunk is-long output₀ to from₀ long₀ state₀ at₀ output from long state at = length output ≡ length output₀
 
 abbrev μ-loop : tie.MeasureT-loop
-μ-loop chunk is-long output₀ to from₀ long₀ at₀ output from long at = length chunk - from
+μ-loop chunk is-long output₀ to from₀ long₀ state₀ at₀ output from long state at = length chunk - from
 
 loop-holds : tie.Need-loop-holds Inv-loop μ-loop
 loop-holds c = refl
@@ -19,17 +20,32 @@ loop-holds c = refl
 index-of-requires : tie.Need-index-of-requires Inv-loop μ-loop
 index-of-requires c κs = search needs
 
-sub-one-line : tie.Need-sub-one-line Inv-loop μ-loop
-sub-one-line c = omega arith
+sub-line : tie.Need-sub-line Inv-loop μ-loop
+sub-line c = omega arith
 
-part-one-line-start : tie.Need-part-one-line-start Inv-loop μ-loop
-part-one-line-start c = omega arith
+part-line-start : tie.Need-part-line-start Inv-loop μ-loop
+part-line-start c = omega arith
 
-part-one-line-end : tie.Need-part-one-line-end Inv-loop μ-loop
-part-one-line-end c = omega arith
+part-line-end : tie.Need-part-line-end Inv-loop μ-loop
+part-line-end c = omega arith
 
-one-line-requires : tie.Need-one-line-requires Inv-loop μ-loop
-one-line-requires c κs = search needs
+call-of-requires : tie.Need-call-of-requires Inv-loop μ-loop
+call-of-requires c κs = search needs
+
+write-if-full-requires : tie.Need-write-if-full-requires Inv-loop μ-loop
+write-if-full-requires c κs = search needs
+
+answer-requires : tie.Need-answer-requires Inv-loop μ-loop
+answer-requires c κs = search needs
+
+put-line-requires : tie.Need-put-line-requires Inv-loop μ-loop
+put-line-requires c κs = search needs
+
+put-state-requires : tie.Need-put-state-requires Inv-loop μ-loop
+put-state-requires c κs = search needs
+
+answer-call-requires : tie.Need-answer-call-requires Inv-loop μ-loop
+answer-call-requires c κs = search needs
 
 add-from : tie.Need-add-from Inv-loop μ-loop
 add-from c = omega arith
@@ -38,7 +54,10 @@ loop-less : tie.Need-loop-less Inv-loop μ-loop
 loop-less c = omega arith
 
 loop-again : tie.Need-loop-again Inv-loop μ-loop
-loop-again c = omega arith
+loop-again c =
+    ⊎-elim (λ w. omega (arith, w .4 .kept .1, ap length (w .7)))
+    (⊎-elim (λ w. omega (arith, w .3 .kept .1, ap length (w .6))) (λ w. omega (arith, w .3 .kept .1, ap length (w .6))))
+    (c .if2 .came)
 
 same-length : tie.Need-same-length Inv-loop μ-loop
 same-length c = omega arith
@@ -60,10 +79,15 @@ whole-lines-spec =
     μ-loop
     loop-holds
     index-of-requires
-    sub-one-line
-    part-one-line-start
-    part-one-line-end
-    one-line-requires
+    sub-line
+    part-line-start
+    part-line-end
+    call-of-requires
+    write-if-full-requires
+    answer-requires
+    put-line-requires
+    put-state-requires
+    answer-call-requires
     add-from
     loop-less
     loop-again

@@ -1,0 +1,122 @@
+// The answer to the call `session`.
+use crate::print::put_flag;
+use crate::print::put_measured;
+use crate::print::put_next;
+use crate::print::put_numbered;
+use crate::print::put_status_name;
+use crate::replies::Reply;
+use crate::replies::put_line;
+use crate::sessions::State;
+use feedback::FeedbackSnapshot;
+use feedback::Latest;
+use feedback::MotorFeedbackState;
+use motor_core::time::Instant;
+use registers::RegisterValue;
+use session::Heard;
+use session::Run;
+use session::Session;
+use session::cache::Entry;
+use session::cache::Slot;
+use text::put;
+use text::put_hex;
+
+// The session in use, with its newline.
+pub(crate) fn put_state(state: State, output: &mut [u8], to: usize) -> usize {
+    if !state.is_started {
+        return put_line(Reply::NoSession, output, to);
+    }
+    let session = state.session;
+    let at = put_session(session, output, to);
+    put(output, at, b"\n")
+}
+
+fn put_session(session: Session, output: &mut [u8], to: usize) -> usize {
+    let heard = session.heard;
+    let run = session.run;
+    let replies = session.replies;
+    let acks = session.acks;
+    let at = put_heard(heard, run, output, to);
+    let at = put_entries(b" replies", replies, output, at);
+    put_entries(b" acks", acks, output, at)
+}
+
+fn put_heard(heard: Heard, run: Run, output: &mut [u8], to: usize) -> usize {
+    let last = heard.last;
+    let feedback = heard.feedback;
+    let latest = feedback.latest;
+    let at = put_numbered(output, to, b"session last ", last.0);
+    let at = put_numbered(output, at, b" sequence ", feedback.sequence);
+    let at = put_flag(output, at, b" run ", is_open(run));
+    put_latest(latest, output, at)
+}
+
+fn is_open(run: Run) -> bool {
+    match run {
+        Run::None => false,
+    }
+}
+
+fn put_latest(latest: Latest, output: &mut [u8], to: usize) -> usize {
+    match latest {
+        Latest::None => put(output, to, b" latest none"),
+        Latest::Snapshot(snapshot) => put_snapshot(snapshot, output, to),
+    }
+}
+
+fn put_snapshot(snapshot: FeedbackSnapshot, output: &mut [u8], to: usize) -> usize {
+    let state = snapshot.state;
+    let received_at = snapshot.received_at;
+    let at = put_numbered(output, to, b" latest ", snapshot.sequence);
+    let at = put_next(output, at, received_at.0);
+    put_feedback_state(state, output, at)
+}
+
+fn put_feedback_state(state: MotorFeedbackState, output: &mut [u8], to: usize) -> usize {
+    let name = state.status_name;
+    let at = put_next(output, to, state.can_id as u64);
+    let at = put_next(output, at, state.arbitration_id as u64);
+    let at = put_next(output, at, state.status_code as u64);
+    let at = put_status_name(name, output, at);
+    put_measured(
+        output,
+        at,
+        state.pos,
+        state.vel,
+        state.torq,
+        state.t_mos,
+        state.t_rotor,
+    )
+}
+
+// The words and the entries. A slot's place is its register's number.
+fn put_entries(words: &[u8], slots: [Slot; 82], output: &mut [u8], to: usize) -> usize {
+    let mut at = put(output, to, words);
+    for rid in 0..82 {
+        let slot = slots[rid];
+        let entry = slot.entry;
+        at = put_entry(rid as u64, entry, output, at);
+    }
+    at
+}
+
+fn put_entry(rid: u64, entry: Entry, output: &mut [u8], to: usize) -> usize {
+    match entry {
+        Entry::Empty => to,
+        Entry::Held(value, stamp) => put_held(rid, value, stamp, output, to),
+    }
+}
+
+fn put_held(rid: u64, value: RegisterValue, stamp: Instant, output: &mut [u8], to: usize) -> usize {
+    let at = put_next(output, to, rid);
+    let at = put_value(value, output, at);
+    put_next(output, at, stamp.0)
+}
+
+fn put_value(value: RegisterValue, output: &mut [u8], to: usize) -> usize {
+    let bits = registers::value_bits(value) as u64;
+    if registers::holds_u32(value) {
+        return put_numbered(output, to, b" u32 ", bits);
+    }
+    let at = put(output, to, b" f32 ");
+    put_hex(output, at, bits, 8)
+}

@@ -1,0 +1,158 @@
+// The calls on the session, but for the one that prints it.
+use crate::fields::low8;
+use crate::fields::low16;
+use crate::fields::low32;
+use crate::fields::real;
+use crate::replies::Reply;
+use models::list::Maxima;
+use models::list::damiao_models;
+use motor_core::bus::CanFrame;
+use motor_core::time::Instant;
+use script::Call;
+use script::calls;
+use session::Heard;
+use session::Session;
+use session::accepts_frame;
+use session::patch_latest;
+use session::start::Started;
+use session::start::from_limits;
+use session::start::from_model;
+use session::start::no_session;
+use taking::Outcome;
+use taking::process_feedback_frame;
+use words::second_word;
+
+// The session in use, once one has started.
+pub(crate) struct State {
+    pub(crate) is_started: bool,
+    pub(crate) session: Session,
+}
+
+// The state after a call, and what the call is told.
+pub(crate) struct Step {
+    pub(crate) state: State,
+    pub(crate) reply: Reply,
+}
+
+pub(crate) fn unstarted() -> State {
+    State {
+        is_started: false,
+        session: no_session(),
+    }
+}
+
+// A start, or a call on the session: a code below `calls::SESSION`.
+pub(crate) fn answer(state: State, call: Call, line: &[u8]) -> Step {
+    let code = call.code;
+    if code <= calls::START_MODEL {
+        return start(state, started(call, line));
+    }
+    if !state.is_started {
+        return Step {
+            state,
+            reply: Reply::NoSession,
+        };
+    }
+    let session = state.session;
+    match code {
+        calls::FRAME => take(session, call),
+        calls::PATCH => patch(session, call),
+        _ => {
+            let heard = session.heard;
+            Step {
+                state,
+                reply: look(heard, call),
+            }
+        }
+    }
+}
+
+fn started(call: Call, line: &[u8]) -> Started {
+    let a = call.args;
+    if call.code == calls::START_MODEL {
+        return from_model(low16(a[1]), low16(a[2]), damiao_models(), second_word(line));
+    }
+    from_limits(
+        low16(a[0]),
+        low16(a[1]),
+        Maxima {
+            p_max: real(a[2]),
+            v_max: real(a[3]),
+            t_max: real(a[4]),
+        },
+    )
+}
+
+// A start that is refused leaves the session that is in use.
+fn start(state: State, started: Started) -> Step {
+    let outcome = started.outcome;
+    match outcome {
+        session::start::Outcome::Started => {
+            let session = started.session;
+            in_use(session, Reply::Started)
+        }
+        session::start::Outcome::Refused(number) => Step {
+            state,
+            reply: Reply::Refused(number),
+        },
+    }
+}
+
+fn in_use(session: Session, reply: Reply) -> Step {
+    Step {
+        state: State {
+            is_started: true,
+            session,
+        },
+        reply,
+    }
+}
+
+fn frame_of(id: u64, data: u64, dlc: u64, flag: u64) -> CanFrame {
+    CanFrame {
+        arbitration_id: low32(id),
+        data: frame::data_bytes(data),
+        dlc: low8(dlc),
+        is_extended: flag != 0,
+    }
+}
+
+fn take(session: Session, call: Call) -> Step {
+    let a = call.args;
+    let frame = frame_of(a[1], a[2], a[3], a[4]);
+    let taking = process_feedback_frame(session, frame, Instant(a[0]));
+    let outcome = taking.outcome;
+    let after = taking.session;
+    in_use(after, taken(outcome))
+}
+
+fn taken(outcome: Outcome) -> Reply {
+    match outcome {
+        Outcome::Taken => Reply::Taken,
+        Outcome::Refused(number) => Reply::Refused(number),
+    }
+}
+
+fn patch(session: Session, call: Call) -> Step {
+    let a = call.args;
+    let done = patch_latest(session, low8(a[0]), low8(a[1]), low8(a[2]));
+    let after = done.session;
+    in_use(after, Reply::Patched(done.patched))
+}
+
+// The calls that leave the session as it is, and those whose engine is to come.
+fn look(heard: Heard, call: Call) -> Reply {
+    if call.code == calls::ACCEPTS {
+        return accepts(heard, call);
+    }
+    not_built()
+}
+
+fn accepts(heard: Heard, call: Call) -> Reply {
+    let a = call.args;
+    Reply::Accepts(accepts_frame(heard, frame_of(a[0], a[1], a[2], a[3])))
+}
+
+fn not_built() -> Reply {
+    Reply::NotBuilt
+}
