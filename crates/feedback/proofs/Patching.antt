@@ -1,17 +1,17 @@
--- A patch answers whether there is a record, and changes neither numbers nor stamp; with no record it changes nothing. Assumes nothing.
+-- What a patch changes of the latest record, and what it does not reach. Assumes nothing.
 use Prim.Native.Nat.{ℕ}
 use mathlib.Core.Path.{_≡_, refl, ap}
-use Rattle.feedback.specs.Feedback.{patch-by, patch-latest}
-use Rattle.feedback.specs.Marks.{marks, is-held}
+use Rattle.feedback.specs.Feedback.{has-record, patch-snapshot, patch-by, patch-latest}
+use Rattle.feedback.specs.declared.FeedbackCache.{FeedbackCache}
+use Rattle.feedback.specs.declared.FeedbackSnapshot.{FeedbackSnapshot}
 use Rattle.feedback.specs.declared.Latest.{Latest}
 use Rattle.feedback.specs.declared.Latest.the-variants.{None, Snapshot}
-use Rattle.feedback.specs.declared.FeedbackCache.{FeedbackCache}
 
 module _ (cache : FeedbackCache) (status mos rotor : ℕ) where
-  pub patch-answer : patch-latest cache status mos rotor .patched ≡ is-held (cache .latest)
+  pub patch-answer : patch-latest cache status mos rotor .patched ≡ has-record (cache .latest)
   patch-answer = go (cache .latest)
     where
-      go : (l : Latest) → patch-by l cache status mos rotor .patched ≡ is-held l
+      go : (l : Latest) → patch-by l cache status mos rotor .patched ≡ has-record l
       go None = refl
       go (Snapshot s) = refl
 
@@ -22,12 +22,25 @@ module _ (cache : FeedbackCache) (status mos rotor : ℕ) where
       go None = refl
       go (Snapshot s) = refl
 
-  pub patch-marks : marks (patch-latest cache status mos rotor .cache .latest) ≡ marks (cache .latest)
-  patch-marks = go (cache .latest) refl
-    where
-      go : (l : Latest) → cache .latest ≡ l → marks (patch-by l cache status mos rotor .cache .latest) ≡ marks l
-      go None e = ap marks e
-      go (Snapshot s) e = refl
+  pub patch-held : (s : FeedbackSnapshot) → cache .latest ≡ Snapshot s → patch-latest cache status mos rotor .cache .latest ≡ Snapshot (patch-snapshot s status mos rotor)
+  patch-held s e = ap (λ (l : Latest). patch-by l cache status mos rotor .cache .latest) e
 
   pub patch-nothing : cache .latest ≡ None → patch-latest cache status mos rotor .cache ≡ cache
   patch-nothing e = ap (λ (l : Latest). patch-by l cache status mos rotor .cache) e
+
+-- of a record that is patched
+module _ (s : FeedbackSnapshot) (status mos rotor : ℕ) where
+  abbrev after : FeedbackSnapshot
+  after = patch-snapshot s status mos rotor
+
+  pub record Kept : Type 0 where
+    pub stamp : after .«received_at» ≡ s .«received_at»
+    pub number : after .sequence ≡ s .sequence
+    pub motor : after .state .«can_id» ≡ s .state .«can_id»
+    pub arbitration-id : after .state .«arbitration_id» ≡ s .state .«arbitration_id»
+    pub position : after .state .pos ≡ s .state .pos
+    pub velocity : after .state .vel ≡ s .state .vel
+    pub torque : after .state .torq ≡ s .state .torq
+
+  pub patch-keeps : Kept
+  patch-keeps = record { stamp = refl; number = refl; motor = refl; arbitration-id = refl; position = refl; velocity = refl; torque = refl }

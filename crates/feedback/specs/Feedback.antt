@@ -1,6 +1,6 @@
 -- The latest feedback: document 01's 'The feedback on the screen', its last rule. Definitions only.
 use Prim.Native.Nat.{ℕ, _+_, _-_, _^_, min}
-use mathlib.Core.Bool.{true, false}
+use mathlib.Core.Bool.{Bool, true, false}
 use Rattle.motor_core.specs.declared.time.Instant.{Instant}
 use Rattle.float.specs.Arithmetic.{float}
 use Rattle.received.specs.Status.{status-name}
@@ -15,6 +15,10 @@ use Rattle.feedback.specs.declared.Patched.{Patched}
 -- no record yet, number 0
 abbrev pub no-feedback : FeedbackCache
 no-feedback = record { latest = None; sequence = 0 }
+
+abbrev pub has-record : Latest → Bool
+has-record None = false
+has-record (Snapshot s) = true
 
 -- the fields of a frame's feedback, its arbitration id, and the status by its name
 abbrev pub state-of : ℕ → SensorFeedback → MotorFeedbackState

@@ -1,2 +1,1 @@
 pub mod Feedback
-pub mod Marks

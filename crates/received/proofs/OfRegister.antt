@@ -1,21 +1,13 @@
 -- A reply or an ack is of the register in d3, which is known. Assumes nothing.
 use Prim.Native.Nat.{ℕ}
 use mathlib.Core.Path.{_≡_, refl}
-use mathlib.Core.Bool.{true}
 use mathlib.Core.List.{List}
 use Rattle.motor_core.specs.declared.model.PvTLimits.{PvTLimits}
-use Rattle.registers.specs.Registers.{known}
+use Rattle.received.specs.OfRegister.{OfRegister}
 use Rattle.received.specs.Received.{d, class-of, by-class, received}
 use Rattle.received.specs.declared.feedback.FrameClass.{FrameClass}
 use Rattle.received.specs.declared.feedback.FrameClass.the-variants as Class
-use Rattle.received.specs.declared.feedback.Received.{Received}
-use Rattle.received.specs.declared.feedback.Received.the-variants.{Reply, Ack, Feedback}
 use Rattle.received.proofs.Classes.{reply-known, ack-known}
-
-abbrev pub OfRegister : Received → ℕ → Type 0
-OfRegister (Reply rid value) n = (rid ≡ n) × (known n ≡ true)
-OfRegister (Ack rid value) n = (rid ≡ n) × (known n ≡ true)
-OfRegister (Feedback f) n = Unit {0}
 
 pub of-register : (l : PvTLimits) (bytes : List ℕ) → OfRegister (received l bytes) (d bytes 3)
 unfolding received

@@ -1,2 +1,3 @@
+pub mod OfRegister
 pub mod Received
 pub mod Status

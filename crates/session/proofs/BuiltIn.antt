@@ -6,7 +6,6 @@ use mathlib.Core.List.{List, [], _∷_}
 use lib.Dec.{T}
 use lib.Ieee.{round, le}
 use Rattle.text.specs.Text.{same}
-use Rattle.motor_core.specs.Bus.{motor-id-accepted}
 use Rattle.motor_core.specs.Error as Error
 use Rattle.motor_core.specs.Model.{limit-accepted, from-maxima, limits-of}
 use Rattle.motor_core.specs.Name.{spelling}
@@ -15,47 +14,30 @@ use Rattle.models.specs.Models.{damiao-models, limits-by-name}
 use Rattle.models.specs.declared.list.Maxima.{Maxima}
 use Rattle.models.specs.declared.list.MotorModelSpec.{MotorModelSpec}
 use Rattle.models.specs.declared.list.ModelLimits.{ModelLimits}
-use Rattle.models.specs.declared.list.ModelLimits.the-variants.{Limits, Refused}
-use Rattle.session.specs.Session.{fresh}
-use Rattle.session.specs.Start.{refused, by-limits, from-limits, by-name, from-model}
-use Rattle.session.specs.declared.start.Outcome.the-variants.{Started as Begun}
-use Rattle.session.specs.declared.start.Started.{Started}
+use Rattle.models.specs.declared.list.ModelLimits.the-variants.{Limits}
+use Rattle.session.specs.BuiltIn.{maxima-accepted, all-accepted, by-motor-id, untested}
+use Rattle.session.specs.Start.{by-limits, from-limits, by-name, from-model}
 
-abbrev maxima-accepted : Maxima → Bool
-maxima-accepted m = limit-accepted (m .«p_max») && limit-accepted (m .«v_max») && limit-accepted (m .«t_max»)
-
-unfoldable pub all-accepted : List MotorModelSpec → Bool
-all-accepted [] = true
-all-accepted (spec ∷ rest) = maxima-accepted (spec .maxima) && all-accepted rest
-
-module _ (motor feedback : ℕ) where
-  abbrev by-motor-id : Maxima → Started
-  by-motor-id m =
-      cond (motor-id-accepted motor) (record { session = fresh motor feedback (from-maxima (m .«p_max») (m .«v_max») (m .«t_max»)); outcome = Begun }) (refused Error.motor-id)
-
-  -- with no test of the limits
-  abbrev pub named : ModelLimits → Started
-  named (Refused number) = refused number
-  named (Limits m) = by-motor-id m
-
-  limits-taken : (m : Maxima) → maxima-accepted m ≡ true → from-limits motor feedback m ≡ by-motor-id m
+module _ (motor-id feedback-id : ℕ) where
+  limits-taken : (m : Maxima) → maxima-accepted m ≡ true → from-limits motor-id feedback-id m ≡ by-motor-id motor-id feedback-id m
   unfolding from-limits limits-of
   limits-taken m e =
-      ap (λ (b : Bool). by-limits (cond b (Check.Accepted (from-maxima (m .«p_max») (m .«v_max») (m .«t_max»))) (Check.Refused Error.limit)) motor feedback) e
+      ap (λ (b : Bool). by-limits (cond b (Check.Accepted (from-maxima (m .«p_max») (m .«v_max») (m .«t_max»))) (Check.Refused Error.limit)) motor-id feedback-id) e
 
   -- the first model or a later one
-  one-more : (m : Maxima) (found : ModelLimits) (here ok all : Bool) → maxima-accepted m ≡ ok → T (ok && all) → (T all → by-name found motor feedback ≡ named found) → by-name (cond here (Limits m) found) motor feedback ≡ named (cond here (Limits m) found)
+  one-more : (m : Maxima) (found : ModelLimits) (here ok all : Bool) → maxima-accepted m ≡ ok → T (ok && all) → (T all → by-name found motor-id feedback-id ≡ untested motor-id feedback-id found)
+      → by-name (cond here (Limits m) found) motor-id feedback-id ≡ untested motor-id feedback-id (cond here (Limits m) found)
   one-more m found here false all e t rest = absurd t
   one-more m found true true all e t rest = limits-taken m e
   one-more m found false true all e t rest = rest t
 
-  by-listed : (models : List MotorModelSpec) → T (all-accepted models) → (name : List ℕ) → by-name (limits-by-name models name) motor feedback ≡ named (limits-by-name models name)
+  by-listed : (models : List MotorModelSpec) → T (all-accepted models) → (name : List ℕ) → by-name (limits-by-name models name) motor-id feedback-id ≡ untested motor-id feedback-id (limits-by-name models name)
   unfolding limits-by-name all-accepted
   by-listed [] t name = refl
   by-listed (spec ∷ rest) t name =
       one-more (spec .maxima) (limits-by-name rest name) (same (spelling (spec .model)) name) (maxima-accepted (spec .maxima)) (all-accepted rest) refl t (λ u. by-listed rest u name)
 
-  pub named-start : (models : List MotorModelSpec) → T (all-accepted models) → (name : List ℕ) → from-model motor feedback models name ≡ named (limits-by-name models name)
+  pub named-start : (models : List MotorModelSpec) → T (all-accepted models) → (name : List ℕ) → from-model motor-id feedback-id models name ≡ untested motor-id feedback-id (limits-by-name models name)
   unfolding from-model
   named-start models t name = by-listed models t name
 

@@ -1,24 +1,47 @@
--- A fresh session has a slot for each register number, all empty. Assumes nothing.
-use Prim.Native.Nat.{ℕ, _<_}
-use mathlib.Core.Path.{_≡_}
-use lib.ListN.{length, length-replicate, getD-replicate}
+-- A fresh session, part by part. Assumes nothing.
+use Prim.Native.Nat.{ℕ, zero, suc}
+use mathlib.Core.Path.{_≡_, refl}
+use lib.ListN.{length, replicate, length-replicate}
 use Rattle.motor_core.specs.declared.model.PvTLimits.{PvTLimits}
+use Rattle.feedback.specs.Feedback.{no-feedback}
 use Rattle.session.specs.Cache.{empty, slot-of}
 use Rattle.session.specs.Session.{fresh}
+use Rattle.session.specs.declared.Run.the-variants.{None}
 
-module _ (motor feedback : ℕ) (limits : PvTLimits) where
-  pub fresh-replies : length (fresh motor feedback limits .replies) ≡ 82
+all-empty : (n rid : ℕ) → slot-of (replicate n empty) rid ≡ empty
+all-empty zero rid = refl
+all-empty (suc n) zero = refl
+all-empty (suc n) (suc rid) = all-empty n rid
+
+module _ (motor-id feedback-id : ℕ) (limits : PvTLimits) where
+  pub fresh-reply : (rid : ℕ) → slot-of (fresh motor-id feedback-id limits .replies) rid ≡ empty
+  unfolding fresh
+  fresh-reply rid = all-empty 82 rid
+
+  pub fresh-ack : (rid : ℕ) → slot-of (fresh motor-id feedback-id limits .acks) rid ≡ empty
+  unfolding fresh
+  fresh-ack rid = all-empty 82 rid
+
+  pub fresh-replies : length (fresh motor-id feedback-id limits .replies) ≡ 82
   unfolding fresh
   fresh-replies = length-replicate 82 empty
 
-  pub fresh-acks : length (fresh motor feedback limits .acks) ≡ 82
+  pub fresh-acks : length (fresh motor-id feedback-id limits .acks) ≡ 82
   unfolding fresh
   fresh-acks = length-replicate 82 empty
 
-  pub fresh-reply : (rid : ℕ) → rid < 82 → slot-of (fresh motor feedback limits .replies) rid ≡ empty
+  pub fresh-limits : fresh motor-id feedback-id limits .heard .limits ≡ limits
   unfolding fresh
-  fresh-reply rid h = getD-replicate 82 rid empty empty h
+  fresh-limits = refl
 
-  pub fresh-ack : (rid : ℕ) → rid < 82 → slot-of (fresh motor feedback limits .acks) rid ≡ empty
+  pub fresh-feedback : fresh motor-id feedback-id limits .heard .feedback ≡ no-feedback
   unfolding fresh
-  fresh-ack rid h = getD-replicate 82 rid empty empty h
+  fresh-feedback = refl
+
+  pub fresh-last : fresh motor-id feedback-id limits .heard .last .0 ≡ 0
+  unfolding fresh
+  fresh-last = refl
+
+  pub fresh-run : fresh motor-id feedback-id limits .run ≡ None
+  unfolding fresh
+  fresh-run = refl

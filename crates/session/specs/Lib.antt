@@ -1,3 +1,4 @@
+pub mod BuiltIn
 pub mod Cache
 pub mod Session
 pub mod Start

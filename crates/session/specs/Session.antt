@@ -4,7 +4,6 @@ use lib.ListN.{replicate}
 use Rattle.motor_core.specs.declared.model.PvTLimits.{PvTLimits}
 use Rattle.feedback.specs.Feedback.{no-feedback, patch-latest}
 use Rattle.feedback.specs.declared.FeedbackCache.{FeedbackCache}
-use Rattle.feedback.specs.declared.Patched as Cache
 use Rattle.session.specs.Cache.{empty}
 use Rattle.session.specs.declared.Heard.{Heard}
 use Rattle.session.specs.declared.Run.the-variants.{None}
@@ -13,8 +12,8 @@ use Rattle.session.specs.declared.Patched.{Patched}
 
 -- 'The runs', a fresh session: caches and record empty, number and last reading 0, no run
 unfoldable pub fresh : ℕ → ℕ → PvTLimits → Session
-fresh motor feedback limits = record {
-  heard = record { «motor_id» = motor; «feedback_id» = feedback; limits = limits; feedback = no-feedback; last = record { 0 = 0 } };
+fresh motor-id feedback-id limits = record {
+  heard = record { «motor_id» = motor-id; «feedback_id» = feedback-id; limits = limits; feedback = no-feedback; last = record { 0 = 0 } };
   replies = replicate 82 empty;
   acks = replicate 82 empty;
   run = None;

@@ -31,17 +31,17 @@ refused number = record { session = no-session; outcome = Outcome.Refused number
 
 -- 'Turned back', start: the limits are tested first, 1, then the motor id, 2
 abbrev pub by-limits : LimitCheck → ℕ → ℕ → Started
-by-limits (Check.Refused number) motor feedback = refused number
-by-limits (Check.Accepted limits) motor feedback =
-    cond (motor-id-accepted motor) (record { session = fresh motor feedback limits; outcome = Outcome.Started }) (refused Error.motor-id)
+by-limits (Check.Refused number) motor-id feedback-id = refused number
+by-limits (Check.Accepted limits) motor-id feedback-id =
+    cond (motor-id-accepted motor-id) (record { session = fresh motor-id feedback-id limits; outcome = Outcome.Started }) (refused Error.motor-id)
 
 unfoldable pub from-limits : ℕ → ℕ → Maxima → Started
-from-limits motor feedback m = by-limits (limits-of (m .«p_max») (m .«v_max») (m .«t_max»)) motor feedback
+from-limits motor-id feedback-id m = by-limits (limits-of (m .«p_max») (m .«v_max») (m .«t_max»)) motor-id feedback-id
 
 -- by a model's name: 12 where the list lacks it, else as from its limits
 abbrev pub by-name : ModelLimits → ℕ → ℕ → Started
-by-name (Named.Refused number) motor feedback = refused number
-by-name (Named.Limits maxima) motor feedback = from-limits motor feedback maxima
+by-name (Named.Refused number) motor-id feedback-id = refused number
+by-name (Named.Limits maxima) motor-id feedback-id = from-limits motor-id feedback-id maxima
 
 unfoldable pub from-model : ℕ → ℕ → List MotorModelSpec → List ℕ → Started
-from-model motor feedback models name = by-name (limits-by-name models name) motor feedback
+from-model motor-id feedback-id models name = by-name (limits-by-name models name) motor-id feedback-id

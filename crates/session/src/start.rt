@@ -33,7 +33,7 @@ pub struct Started {
 }
 
 // Empty caches, no record, number 0, last reading 0, no run.
-pub fn fresh(motor_id: u16, feedback_id: u16, limits: PvTLimits) -> Session
+fn fresh(motor_id: u16, feedback_id: u16, limits: PvTLimits) -> Session
     ensures { λ r. ⌜ r ≡ fresh «motor_id» «feedback_id» limits ⌝ }
 {
     Session {
@@ -84,6 +84,7 @@ fn refused(number: u8) -> Started
     }
 }
 
+// A fresh session with these limits, or the refusal 1 or 2.
 pub fn from_limits(motor_id: u16, feedback_id: u16, maxima: Maxima) -> Started
     ensures { λ r. ⌜ r ≡ Spec.from-limits «motor_id» «feedback_id» maxima ⌝ }
 {
@@ -102,6 +103,7 @@ pub fn from_limits(motor_id: u16, feedback_id: u16, maxima: Maxima) -> Started
     }
 }
 
+// A fresh session with the limits of the first model of that name, or the refusal 12, 1 or 2.
 pub fn from_model(motor_id: u16, feedback_id: u16, list: ModelList, name: &[u8]) -> Started
     ensures { λ r. ⌜ r ≡ Spec.from-model «motor_id» «feedback_id» (models-of list) (now (name .entry)) ⌝ }
 {

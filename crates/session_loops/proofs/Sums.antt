@@ -1,8 +1,7 @@
 -- Checksums as they are made, number by number, and a session after one more frame. Assumes nothing.
-use Prim.Native.Nat.{ℕ, _+_, _*_, _≤_}
+use Prim.Native.Nat.{ℕ, _+_, _*_}
 use mathlib.Core.Path.{_≡_, ap, _∙_}
 use mathlib.Core.List.{List}
-use native.Mathlib.Nat.{le-antisymm}
 use native.Mathlib.Numerals.{add-one}
 use Rattle.motor_core.specs.declared.bus.CanFrame.{CanFrame}
 use Rattle.motor_core.specs.declared.time.Instant.{Instant}

@@ -1,11 +1,12 @@
 -- What the loop over frames returns: a checksum of the session that has taken them. Definitions only.
-use Prim.Native.Nat.{ℕ, zero, suc, _+_, _*_, _/_}
+use Prim.Native.Nat.{ℕ, zero, suc, _*_, _/_}
 use mathlib.Core.Bool.{false, cond}
 use mathlib.Core.List.{List}
-use lib.Ieee.{binary32, toBits}
-use lib.ListN.{length, getD}
+use lib.Ieee.{binary32, toBits, div}
+use lib.ListN.{length}
 use Rattle.motor_core.specs.declared.bus.CanFrame.{CanFrame}
-use Rattle.motor_core.specs.declared.model.PvTLimits.{PvTLimits}
+use Rattle.float.specs.Arithmetic.{float}
+use Rattle.models.specs.declared.list.Maxima.{Maxima}
 use Rattle.registers.specs.Value.{bits-of, type-of, is-u32}
 use Rattle.registers.specs.declared.RegisterValue.{RegisterValue}
 use Rattle.received.specs.declared.status.StatusName.{StatusName}
@@ -14,13 +15,13 @@ use Rattle.feedback.specs.declared.Latest.{Latest}
 use Rattle.feedback.specs.declared.Latest.the-variants.{None, Snapshot}
 use Rattle.feedback.specs.declared.MotorFeedbackState.{MotorFeedbackState}
 use Rattle.session.specs.Cache.{slot-of}
-use Rattle.session.specs.Session.{fresh}
+use Rattle.session.specs.Start.{from-limits}
 use Rattle.session.specs.declared.Session.{Session}
 use Rattle.session.specs.declared.cache.Entry.{Entry}
 use Rattle.session.specs.declared.cache.Entry.the-variants.{Empty, Held}
 use Rattle.session.specs.declared.cache.Slot.{Slot}
 use Rattle.taking.specs.Taking.{take-frame}
-use Rattle.bench_loops.specs.Loops.{total, _⊞_, frame, limits-4310}
+use Rattle.bench_loops.specs.Loops.{total, _⊞_, frame}
 
 -- a sum of 64 bits in which what came before counts three times
 unfoldable pub mixed : ℕ → ℕ → ℕ
@@ -80,9 +81,14 @@ unfoldable pub after : Session → List ℕ → ℕ → Session
 after s bytes zero = s
 after s bytes (suc k) = take-frame (after s bytes k) (frame-at bytes (k * 8)) (record { 0 = k }) .session
 
--- a fresh session of motor 1 after every whole frame; what is left of the list counts for nothing
-abbrev pub after-frames : PvTLimits → List ℕ → Session
-after-frames l bytes = after (fresh 1 0x11 l) bytes (length bytes / 8)
+-- after every whole frame; what is left of the list counts for nothing
+abbrev pub after-frames : Session → List ℕ → Session
+after-frames start bytes = after start bytes (length bytes / 8)
 
+-- model 4310: 12.5, 30, 10
+abbrev pub maxima-4310 : Maxima
+maxima-4310 = record { «p_max» = div binary32 (float 25) (float 2); «v_max» = float 30; «t_max» = float 10 }
+
+-- a fresh session of motor 1
 abbrev pub frames-total : List ℕ → ℕ
-frames-total bytes = session-total (after-frames limits-4310 bytes)
+frames-total bytes = session-total (after-frames (from-limits 1 0x11 maxima-4310 .session) bytes)

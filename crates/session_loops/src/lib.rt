@@ -7,15 +7,15 @@ ghost use lib.ListN.{length};
 ghost use Rattle.session_loops.specs.Frames as Spec;
 use feedback::Latest;
 use feedback::MotorFeedbackState;
+use models::list::Maxima;
 use motor_core::bus::CanFrame;
-use motor_core::model::LimitCheck;
-use motor_core::model::PvTLimits;
 use motor_core::time::Instant;
 use received::status::StatusName;
 use registers::RegisterValue;
 use session::Session;
 use session::cache::Entry;
 use session::cache::Slot;
+use session::start::from_limits;
 use taking::process_feedback_frame;
 
 // Three times the sum, and the next number: every weight is odd, so each number counts.
@@ -152,11 +152,11 @@ fn frame_at(frames: &[u8], at: usize) -> CanFrame
     }
 }
 
-// A fresh session of motor 1 after every whole frame; a frame's reading is its place.
-fn after_frames(frames: &[u8], limits: PvTLimits) -> Session
-    ensures { λ r. ⌜ r ≡ Spec.after-frames limits (now (frames .entry)) ⌝ }
+// A session after every whole frame; a frame's reading is its place.
+fn after_frames(frames: &[u8], start: Session) -> Session
+    ensures { λ r. ⌜ r ≡ Spec.after-frames start (now (frames .entry)) ⌝ }
 {
-    let mut session = session::start::fresh(1, 0x11, limits);
+    let mut session = start;
     let count = frames.len() / 8;
     for k in 0..count {
         let frame = frame_at(frames, k * 8);
@@ -166,14 +166,20 @@ fn after_frames(frames: &[u8], limits: PvTLimits) -> Session
     session
 }
 
-// Takes every whole frame of eight bytes into a session of model 4310.
+// Takes every whole frame of eight bytes into a fresh session of motor 1, model 4310.
 #[no_mangle]
 pub extern "C" fn session_loops_frames(frames: &[u8]) -> u64
     ensures { λ r. ⌜ r ≡ Spec.frames-total (now (frames .entry)) ⌝ }
 {
-    let made = motor_core::model::from_maxima(12.5, 30.0, 10.0);
-    match made {
-        LimitCheck::Accepted(limits) => session_total(after_frames(frames, limits)),
-        LimitCheck::Refused(_) => 0,
-    }
+    let start = from_limits(
+        1,
+        0x11,
+        Maxima {
+            p_max: 12.5,
+            v_max: 30.0,
+            t_max: 10.0,
+        },
+    );
+    let session = start.session;
+    session_total(after_frames(frames, session))
 }

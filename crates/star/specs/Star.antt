@@ -24,6 +24,9 @@ use Rattle.received.specs.declared.feedback.Decoded.the-variants as Decode
 use Rattle.received.specs.declared.feedback.Received.the-variants as Receive
 use Rattle.received.specs.declared.feedback.SensorFeedback.{SensorFeedback}
 use Rattle.received.specs.declared.status.StatusName.the-variants.{Enabled}
+use Rattle.feedback.specs.declared.FeedbackCache.{FeedbackCache}
+use Rattle.feedback.specs.declared.FeedbackSnapshot.{FeedbackSnapshot}
+use Rattle.feedback.specs.declared.Latest.the-variants.{Snapshot}
 use Rattle.session.specs.Cache.{held, slot-of}
 use Rattle.session.specs.Session.{fresh}
 use Rattle.session.specs.declared.Session.{Session}
@@ -63,6 +66,14 @@ on-bus bytes = record { «arbitration_id» = 0x11; «data» = bytes; dlc = 8; «
 abbrev pub session : Session
 session = fresh 1 0x11 (from-maxima p v t)
 
+-- the record that the frame at its minimum leaves there
+abbrev pub first-record : Instant → FeedbackSnapshot
+first-record reading = record {
+  state = record { «can_id» = 1; «arbitration_id» = 0x11; «status_code» = 1; «status_name» = Enabled; pos = neg p; vel = neg v; torq = neg t; «t_mos» = float 30; «t_rotor» = float 40 };
+  «received_at» = reading;
+  sequence = 1;
+}
+
 -- the query 12.5, 45, 10
 abbrev pub query : Maxima
 query = record { «p_max» = p; «v_max» = float 45; «t_max» = t }
@@ -73,6 +84,7 @@ pub record Star : Type 0 where
   pub feedback-decoded : decoded p v t at-minimum ≡ Decode.Feedback minimum
   pub feedback-sorted : received (from-maxima p v t) at-minimum ≡ Receive.Feedback minimum
   pub feedback-status : status-name (minimum .«status_code») ≡ Enabled
+  pub feedback-stored : (reading : Instant) → reading .0 ≤ 2 ^ 62 → take-frame session (on-bus at-minimum) reading .session .heard .feedback ≡ record { latest = Snapshot (first-record reading); sequence = 1 }
   pub register-ten : received (from-maxima p v t) ten-is-one ≡ Receive.Reply 10 (UInt32 1)
   pub register-ten-stored : (reading : Instant) → reading .0 ≤ 2 ^ 62 → slot-of (take-frame session (on-bus ten-is-one) reading .session .replies) 10 ≡ held (UInt32 1) reading
   pub d1-too-high : class-of (frame 0x11 0x10 0x33 0x0A 0x01 0x00 0x00 0x00) ≡ Class.Feedback

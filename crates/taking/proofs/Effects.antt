@@ -1,25 +1,26 @@
 -- What taking a frame does to a register's reply and ack, to the record and to the last reading, and what it leaves alone. Assumes nothing.
 use Prim.Native.Nat.{ℕ, _≤_, _<_, _^_}
 use mathlib.Core.Path.{_≡_, refl, sym, ap, _∙_, subst}
-use mathlib.Core.Bool.{Bool, true, false, _&&_, cond}
+use mathlib.Core.Bool.{Bool, true, false, cond}
 use mathlib.Core.List.{List}
-use mathlib.Core.Option.{Option, none, some}
+use mathlib.Core.Option.{none, some}
 use native.Mathlib.Nat.{le-refl}
-use borrow.Author.Tests.{leb-true}
-use lib.Dec.{T, leb, eqb, eqb→eq, eqb-refl}
-use lib.ListN.{length, getD, set, length-set}
+use lib.Dec.{T, eqb, eqb→eq, eqb-refl}
+use lib.ListN.{length, set, length-set}
 use lib.Seq.{getD-set-same, getD-set-other}
-use Rattle.motor_core.specs.Error as Error
-use Rattle.motor_core.specs.Time.{reading-accepted}
 use Rattle.motor_core.specs.declared.bus.CanFrame.{CanFrame}
+use Rattle.motor_core.specs.declared.model.PvTLimits.{PvTLimits}
 use Rattle.motor_core.specs.declared.time.Instant.{Instant}
 use Rattle.registers.specs.Registers.{known}
 use Rattle.registers.specs.declared.RegisterValue.{RegisterValue}
 use Rattle.registers.proofs.Below.{known-below}
-use Rattle.received.specs.Received.{d}
+use Rattle.received.specs.OfRegister.{OfRegister}
+use Rattle.received.specs.Received.{d, class-of, by-class, received}
+use Rattle.received.specs.declared.feedback.FrameClass.{FrameClass}
+use Rattle.received.specs.declared.feedback.FrameClass.the-variants as Class
 use Rattle.received.specs.declared.feedback.Received.{Received}
 use Rattle.received.specs.declared.feedback.Received.the-variants.{Reply, Ack, Feedback}
-use Rattle.received.proofs.OfRegister.{OfRegister, of-register}
+use Rattle.received.proofs.OfRegister.{of-register}
 use Rattle.feedback.specs.declared.FeedbackCache.{FeedbackCache}
 use Rattle.session.specs.Cache.{empty, held, slot-of}
 use Rattle.session.specs.declared.Session.{Session}
@@ -28,6 +29,7 @@ use Rattle.taking.specs.Effects.{replied, acked, reported, reply-taken, 
 use Rattle.taking.specs.Taking.{frame-outcome, feedback-after, replies-after, acks-after, session-after, says, take-by, take-frame}
 use Rattle.taking.specs.declared.Outcome.{Outcome}
 use Rattle.taking.specs.declared.Outcome.the-variants.{Taken, Refused}
+use Rattle.taking.proofs.Outcomes.{taken-reading}
 
 -- one register's slot where a value is held for a known register
 slot-set : (slots : List Slot) (rid r n : ℕ) (v : RegisterValue) (t : Instant) → length slots ≡ 82 → r ≡ n → known n ≡ true
@@ -66,17 +68,24 @@ acks-length slots (Reply r v) t = refl
 acks-length slots (Ack r v) t = length-set slots r (held v t)
 acks-length slots (Feedback f) t = refl
 
--- a reading that is taken
-abbrev by-reading : Bool → Outcome
-by-reading accepted = cond accepted Taken (Refused Error.reading)
-
-forward : (last t : Instant) → last .0 ≤ last-with (by-reading (reading-accepted last t)) t last .0
-forward last t = go (leb (last .0) (t .0)) (leb (t .0) (2 ^ 62)) (leb-true (last .0) (t .0))
+-- a register's value in a frame goes by the frame's bytes alone
+pub replied-by-bytes : (rid : ℕ) (l m : PvTLimits) (bytes : List ℕ) → replied rid (received l bytes) ≡ replied rid (received m bytes)
+unfolding received
+replied-by-bytes rid l m bytes = go (class-of bytes)
   where
-    go : (late early : Bool) → (late ≡ true → last .0 ≤ t .0) → last .0 ≤ last-with (by-reading (late && early)) t last .0
-    go true true h = h refl
-    go true false h = le-refl (last .0)
-    go false early h = le-refl (last .0)
+    go : (k : FrameClass) → replied rid (by-class k l bytes) ≡ replied rid (by-class k m bytes)
+    go Class.Reply = refl
+    go Class.Ack = refl
+    go Class.Feedback = refl
+
+pub acked-by-bytes : (rid : ℕ) (l m : PvTLimits) (bytes : List ℕ) → acked rid (received l bytes) ≡ acked rid (received m bytes)
+unfolding received
+acked-by-bytes rid l m bytes = go (class-of bytes)
+  where
+    go : (k : FrameClass) → acked rid (by-class k l bytes) ≡ acked rid (by-class k m bytes)
+    go Class.Reply = refl
+    go Class.Ack = refl
+    go Class.Feedback = refl
 
 module _ (s : Session) (frame : CanFrame) (t : Instant) where
   abbrev after : Session
@@ -114,7 +123,7 @@ module _ (s : Session) (frame : CanFrame) (t : Instant) where
       go Taken = record-of (s .heard .feedback) (frame .«arbitration_id») (says (s .heard) frame) t
       go (Refused n) = refl
 
-  -- the last reading, which never goes back
+  -- the last reading, which never goes back, nor beyond 2^62
   pub last-after-frame : after .heard .last ≡ last-with outcome t (s .heard .last)
   unfolding take-frame
   last-after-frame = go outcome
@@ -124,7 +133,18 @@ module _ (s : Session) (frame : CanFrame) (t : Instant) where
       go (Refused n) = refl
 
   pub last-goes-on : s .heard .last .0 ≤ after .heard .last .0
-  last-goes-on = subst (λ (l : Instant). s .heard .last .0 ≤ l .0) (sym last-after-frame) (forward (s .heard .last) t)
+  last-goes-on = subst (λ (l : Instant). s .heard .last .0 ≤ l .0) (sym last-after-frame) (go outcome refl)
+    where
+      go : (o : Outcome) → outcome ≡ o → s .heard .last .0 ≤ last-with o t (s .heard .last) .0
+      go Taken e = taken-reading (s .heard) frame t e .0
+      go (Refused n) e = le-refl (s .heard .last .0)
+
+  pub last-stays-within : s .heard .last .0 ≤ 2 ^ 62 → after .heard .last .0 ≤ 2 ^ 62
+  last-stays-within bound = subst (λ (l : Instant). l .0 ≤ 2 ^ 62) (sym last-after-frame) (go outcome refl)
+    where
+      go : (o : Outcome) → outcome ≡ o → last-with o t (s .heard .last) .0 ≤ 2 ^ 62
+      go Taken e = taken-reading (s .heard) frame t e .1
+      go (Refused n) e = bound
 
   -- what neither a reply nor an ack nor a feedback changes
   stays : {A : Type 0} (part : Session → A) → part (session-after s (frame .«arbitration_id») (says (s .heard) frame) t) ≡ part s → part after ≡ part s
@@ -136,8 +156,8 @@ module _ (s : Session) (frame : CanFrame) (t : Instant) where
       go (Refused n) = refl
 
   pub record Left : Type 0 where
-    pub motor : after .heard .«motor_id» ≡ s .heard .«motor_id»
-    pub feedback : after .heard .«feedback_id» ≡ s .heard .«feedback_id»
+    pub motor-id : after .heard .«motor_id» ≡ s .heard .«motor_id»
+    pub feedback-id : after .heard .«feedback_id» ≡ s .heard .«feedback_id»
     pub limits : after .heard .limits ≡ s .heard .limits
     pub run : after .run ≡ s .run
     pub replies : length (after .replies) ≡ length (s .replies)
@@ -145,15 +165,19 @@ module _ (s : Session) (frame : CanFrame) (t : Instant) where
 
   pub left : Left
   left = record {
-    motor = stays (λ (x : Session). x .heard .«motor_id») refl;
-    feedback = stays (λ (x : Session). x .heard .«feedback_id») refl;
+    motor-id = stays (λ (x : Session). x .heard .«motor_id») refl;
+    feedback-id = stays (λ (x : Session). x .heard .«feedback_id») refl;
     limits = stays (λ (x : Session). x .heard .limits) refl;
     run = stays (λ (x : Session). x .run) refl;
     replies = stays (λ (x : Session). length (x .replies)) (replies-length (s .replies) (says (s .heard) frame) t);
     acks = stays (λ (x : Session). length (x .acks)) (acks-length (s .acks) (says (s .heard) frame) t);
   }
 
-  -- a frame that is turned back leaves all
-  pub turned-back : (n : ℕ) → outcome ≡ Refused n → after ≡ s
+  -- what the call answers, and that a frame which is turned back leaves all
+  pub outcome-of-frame : take-frame s frame t .outcome ≡ outcome
+  unfolding take-frame
+  outcome-of-frame = refl
+
+  pub turned-back : (n : ℕ) → take-frame s frame t .outcome ≡ Refused n → after ≡ s
   unfolding take-frame
   turned-back n e = ap (λ (o : Outcome). take-by o s frame t) e

@@ -2,7 +2,6 @@
 use Prim.Native.Nat.{ℕ}
 use mathlib.Core.Bool.{cond}
 use mathlib.Core.List.{List}
-use lib.Dec.{ltb}
 use lib.ListN.{set}
 use Rattle.motor_core.specs.Error as Error
 use Rattle.motor_core.specs.Time.{reading-accepted}
@@ -76,14 +75,10 @@ take-frame s frame reading =
     let outcome = frame-outcome (s .heard) frame reading in
     record { session = take-by outcome s frame reading; outcome = outcome }
 
--- The same on the small parts, and what is kept in the slot of the frame's register.
-
-abbrev pub place : ℕ → ℕ
-place rid = cond (ltb rid 82) rid 0
-
+-- The same on the small parts, and what is to be kept in a cache.
 abbrev pub kept-of : Received → Instant → Kept
-kept-of (Reply rid value) reading = Keep.Reply (held value reading)
-kept-of (Ack rid value) reading = Keep.Ack (held value reading)
+kept-of (Reply rid value) reading = Keep.Reply rid (held value reading)
+kept-of (Ack rid value) reading = Keep.Ack rid (held value reading)
 kept-of (Feedback f) reading = Keep.Nothing
 
 abbrev pub taken-step : Heard → ℕ → Received → Instant → Step

@@ -1,8 +1,7 @@
 // Taking a frame into a session. The work is done on the session's small parts, with at most one slot
 // that is written; the entry on a whole session is thin around it.
 ghost use mathlib.Core.Path.{_≡_};
-ghost use Prim.Native.Nat.{_<_};
-ghost use Rattle.received.specs.Received.{d};
+ghost use Rattle.session.specs.Cache.{held};
 ghost use Rattle.taking.specs.Taking as Spec;
 use feedback::FeedbackCache;
 use feedback::state_of;
@@ -13,6 +12,7 @@ use motor_core::time::Instant;
 use motor_core::time::accepts_reading;
 use received::feedback::Received;
 use received::feedback::read_frame;
+use registers::RegisterValue;
 use session::Heard;
 use session::Session;
 use session::cache::Entry;
@@ -23,11 +23,11 @@ pub enum Outcome {
     Refused(u8),
 }
 
-// What a frame leaves in a slot of its register, of the replies or of the acks.
+// What a frame leaves in a cache: a register's slot, of the replies or of the acks.
 pub enum Kept {
     Nothing,
-    Reply(Slot),
-    Ack(Slot),
+    Reply(u8, Slot),
+    Ack(u8, Slot),
 }
 
 // The small parts after a frame, and what is to be kept.
@@ -43,15 +43,6 @@ pub struct Taking {
     pub outcome: Outcome,
 }
 
-// The place of the slots of the register in d3. Where no register has that number, any place will
-// do: the frame is feedback, and nothing is kept.
-pub fn slot_place(data: [u8; 8]) -> usize
-    ensures { λ r. ⌜ (r ≡ Spec.place (d «data» 3)) × (r < 82) ⌝ }
-{
-    let rid = data[3];
-    if rid < 82 { rid as usize } else { 0 }
-}
-
 fn heard_at(heard: Heard, feedback: FeedbackCache, reading: Instant) -> Heard
     ensures { λ r. ⌜ r ≡ Spec.heard-at heard feedback reading ⌝ }
 {
@@ -65,25 +56,29 @@ fn heard_at(heard: Heard, feedback: FeedbackCache, reading: Instant) -> Heard
     }
 }
 
+fn held(value: RegisterValue, stamp: Instant) -> Slot
+    ensures { λ r. ⌜ r ≡ held value stamp ⌝ }
+{
+    Slot {
+        entry: Entry::Held(value, stamp),
+    }
+}
+
 // What a frame that is taken does to the parts, by what it says.
 fn taken_step(heard: Heard, arbitration_id: u32, received: Received, reading: Instant) -> Step
     ensures { λ r. ⌜ r ≡ Spec.taken-step heard «arbitration_id» received reading ⌝ }
 {
     let feedback = heard.feedback;
     match received {
-        Received::Reply(_, value) => Step {
+        Received::Reply(rid, value) => Step {
             outcome: Outcome::Taken,
             heard: heard_at(heard, feedback, reading),
-            kept: Kept::Reply(Slot {
-                entry: Entry::Held(value, reading),
-            }),
+            kept: Kept::Reply(rid, held(value, reading)),
         },
-        Received::Ack(_, value) => Step {
+        Received::Ack(rid, value) => Step {
             outcome: Outcome::Taken,
             heard: heard_at(heard, feedback, reading),
-            kept: Kept::Ack(Slot {
-                entry: Entry::Held(value, reading),
-            }),
+            kept: Kept::Ack(rid, held(value, reading)),
         },
         Received::Feedback(decoded) => Step {
             outcome: Outcome::Taken,
@@ -97,7 +92,7 @@ fn taken_step(heard: Heard, arbitration_id: u32, received: Received, reading: In
     }
 }
 
-// Takes a frame, with its reading, into the parts. What is kept belongs at `slot_place`.
+// Takes a frame, with its reading, into the small parts.
 pub fn frame_step(heard: Heard, frame: CanFrame, reading: Instant) -> Step
     ensures { λ r. ⌜ r ≡ Spec.frame-step heard frame reading ⌝ }
 {
@@ -124,8 +119,6 @@ pub fn process_feedback_frame(session: Session, frame: CanFrame, reading: Instan
     ensures { λ r. ⌜ r ≡ Spec.take-frame session frame reading ⌝ }
 {
     let mut session = session;
-    let data = frame.data;
-    let place = slot_place(data);
     let heard = session.heard;
     let step = frame_step(heard, frame, reading);
     let heard_after = step.heard;
@@ -134,12 +127,12 @@ pub fn process_feedback_frame(session: Session, frame: CanFrame, reading: Instan
     let outcome = step.outcome;
     match kept {
         Kept::Nothing => Taking { session, outcome },
-        Kept::Reply(slot) => {
-            session.replies[place] = slot;
+        Kept::Reply(rid, slot) => {
+            session.replies[rid as usize] = slot;
             Taking { session, outcome }
         }
-        Kept::Ack(slot) => {
-            session.acks[place] = slot;
+        Kept::Ack(rid, slot) => {
+            session.acks[rid as usize] = slot;
             Taking { session, outcome }
         }
     }

@@ -1,10 +1,8 @@
 -- `session_loops::after_frames` meets its contract. Assumes nothing.
 use native.Mathlib.Nat.{le-antisymm}
-use lib.ListN.{length}
 use denote.Ref.{now}
-use Rattle.session.specs.declared.Session.{Session}
 use Rattle.session_loops.proofs.Sums.{one-more-frame}
-use Prim.Native.Nat.{_-_, _/_, _≤_}
+use Prim.Native.Nat.{_-_, _≤_}
 use mathlib.Core.Path.{_≡_, refl, ap, _∙_}
 use borrow.Author.Needs.{needs}
 use Rattle.session_loops.specs.Frames.{after}
@@ -16,9 +14,6 @@ Inv-loop frames session₀ count k₀ session k = (k ≤ count) × (session ≡ 
 
 abbrev μ-loop : tie.MeasureT-loop
 μ-loop frames session₀ count k₀ session k = count - k
-
-fresh-requires : tie.Need-fresh-requires Inv-loop μ-loop
-fresh-requires c κs = search needs
 
 loop-holds : tie.Need-loop-holds Inv-loop μ-loop
 unfolding after
@@ -48,10 +43,7 @@ loop-again c =
 returns : tie.Need-returns Inv-loop μ-loop
 returns c =
     let l = c .before .loop in
-    let bytes = now (c .before .before .before .before .args .frames) in
-    l .inv .1
-    ∙ ap (after _ bytes) (le-antisymm (l .inv .0) (c .loop-test .left))
-    ∙ ap (λ (s : Session). after s bytes (length bytes / 8)) (c .before .before .fresh .ensures)
+    l .inv .1 ∙ ap (after _ (now (c .before .before .before .args .frames))) (le-antisymm (l .inv .0) (c .loop-test .left))
 
 pub after-frames-spec : {M : Type 1} → statement M
 after-frames-spec =
@@ -59,7 +51,6 @@ after-frames-spec =
     (tie.spec
     Inv-loop
     μ-loop
-    fresh-requires
     loop-holds
     mul-frame-at
     frame-at-requires

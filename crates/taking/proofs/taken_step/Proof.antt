@@ -1,10 +1,9 @@
 -- `taking::taken_step` meets its contract. Assumes nothing.
 use mathlib.Core.Path.{sym, ap, _∙_}
 use Rattle.received.specs.declared.feedback.Received.{Received}
-use Rattle.feedback.specs.declared.MotorFeedbackState.{MotorFeedbackState}
-use Rattle.feedback.specs.declared.FeedbackCache.{FeedbackCache}
 use Rattle.feedback.specs.Feedback.{update}
-use Rattle.session.specs.Cache.{held}
+use Rattle.feedback.specs.declared.FeedbackCache.{FeedbackCache}
+use Rattle.feedback.specs.declared.MotorFeedbackState.{MotorFeedbackState}
 use Rattle.session.specs.declared.Heard.{Heard}
 use Rattle.taking.specs.Taking as Spec
 use Rattle.taking.specs.declared.Kept.the-variants as Keep
@@ -20,11 +19,17 @@ enum-known-received c = search needs
 heard-at-requires : tie.Need-heard-at-requires
 heard-at-requires c κs = search needs
 
+held-requires : tie.Need-held-requires
+held-requires c κs = search needs
+
 enum-known-received-2 : tie.Need-enum-known-received-2
 enum-known-received-2 c = search needs
 
 heard-at-requires-2 : tie.Need-heard-at-requires-2
 heard-at-requires-2 c κs = search needs
+
+held-requires-2 : tie.Need-held-requires-2
+held-requires-2 c κs = search needs
 
 enum-known-received-3 : tie.Need-enum-known-received-3
 enum-known-received-3 c = search needs
@@ -40,16 +45,16 @@ heard-at-requires-3 c κs = search needs
 
 returns : tie.Need-returns
 returns c =
-    let told = c .before .before in
+    let told = c .before .before .before in
     let a = told .before .before .before .args in
-    ap {B = Step} (λ (h : Heard). record { outcome = Taken; heard = h; kept = Keep.Reply (held (told .received .given .0 .1 .0) (a .reading)) }) (c .heard-at .ensures)
+    (λ i. record { outcome = Taken; heard = c .before .heard-at .ensures i; kept = Keep.Reply (told .received .given .0 .0) (c .held .ensures i) })
     ∙ sym (ap (λ (r : Received). Spec.taken-step (a .heard) (a .arbitration-id) r (a .reading)) (told .received .given .1))
 
 returns-2 : tie.Need-returns-2
 returns-2 c =
-    let told = c .before .before in
+    let told = c .before .before .before in
     let a = told .before .before .before .args in
-    ap {B = Step} (λ (h : Heard). record { outcome = Taken; heard = h; kept = Keep.Ack (held (told .received2 .given .0 .1 .0) (a .reading)) }) (c .heard-at2 .ensures)
+    (λ i. record { outcome = Taken; heard = c .before .heard-at2 .ensures i; kept = Keep.Ack (told .received2 .given .0 .0) (c .held2 .ensures i) })
     ∙ sym (ap (λ (r : Received). Spec.taken-step (a .heard) (a .arbitration-id) r (a .reading)) (told .received2 .given .1))
 
 returns-3 : tie.Need-returns-3
@@ -68,8 +73,10 @@ taken-step-spec =
     (tie.spec
     enum-known-received
     heard-at-requires
+    held-requires
     enum-known-received-2
     heard-at-requires-2
+    held-requires-2
     enum-known-received-3
     state-of-requires
     update-requires
