@@ -1,6 +1,7 @@
 // Taking a frame into a session. The work is done on the session's small parts, with at most one slot
 // that is written; the entry on a whole session is thin around it.
 ghost use mathlib.Core.Path.{_≡_};
+ghost use Prim.Native.Nat.{_<_};
 ghost use Rattle.session.specs.Cache.{held};
 ghost use Rattle.taking.specs.Taking as Spec;
 use feedback::FeedbackCache;
@@ -114,6 +115,15 @@ pub fn frame_step(heard: Heard, frame: CanFrame, reading: Instant) -> Step
     )
 }
 
+// A register's place among the slots. The test is always met; it tells the compiler the bound, and
+// with it the session is copied whole and not piece by piece.
+fn slot_place(rid: u8) -> usize
+    requires { ⌜ rid < 82 ⌝ }
+    ensures { λ r. ⌜ r ≡ rid ⌝ }
+{
+    if rid < 82 { rid as usize } else { 0 }
+}
+
 // Takes a frame, with its reading, into a session.
 pub fn process_feedback_frame(session: Session, frame: CanFrame, reading: Instant) -> Taking
     ensures { λ r. ⌜ r ≡ Spec.take-frame session frame reading ⌝ }
@@ -128,11 +138,13 @@ pub fn process_feedback_frame(session: Session, frame: CanFrame, reading: Instan
     match kept {
         Kept::Nothing => Taking { session, outcome },
         Kept::Reply(rid, slot) => {
-            session.replies[rid as usize] = slot;
+            let place = slot_place(rid);
+            session.replies[place] = slot;
             Taking { session, outcome }
         }
         Kept::Ack(rid, slot) => {
-            session.acks[rid as usize] = slot;
+            let place = slot_place(rid);
+            session.acks[place] = slot;
             Taking { session, outcome }
         }
     }

@@ -1,5 +1,8 @@
 -- `taking::process_feedback_frame` meets its contract. Assumes nothing.
-use Rattle.taking.proofs.Parts.{taken-by, placed}
+use Prim.Native.Nat.{ℕ, _<_}
+use mathlib.Core.Path.{sym, ap, _∙_, subst}
+use Rattle.taking.specs.declared.Kept.the-variants as Keep
+use Rattle.taking.proofs.Parts.{put, taken-by, placed}
 use borrow.Author.Needs.{needs}
 use Rattle.taking.proofs.process_feedback_frame.Statement.{statement}
 use Rattle.taking.proofs.process_feedback_frame.Tie as tie
@@ -13,34 +16,42 @@ enum-told c = search needs
 enum-known-kept : tie.Need-enum-known-kept
 enum-known-kept c = search needs
 
-cast-slot : tie.Need-cast-slot
-cast-slot c = search needs
+slot-place-requires : tie.Need-slot-place-requires
+slot-place-requires c κs =
+    let told = c .before in
+    let stepped = told .before .before .before in
+    let a = stepped .before .before .args in
+    placed (a .session .heard) (a .frame) (a .reading) _ _ (stepped .frame-step .ensures) (told .kept .given .1)
 
 mul-slot : tie.Need-mul-slot
 mul-slot c = search needs
 
 element-set-from-slot : tie.Need-element-set-from-slot
 element-set-from-slot c =
-    let told = c .before in
+    let told = c .before .before in
     let stepped = told .before .before .before in
     let a = stepped .before .before .args in
-    placed (a .session .heard) (a .frame) (a .reading) _ _ (stepped .frame-step .ensures) (told .kept .given .1)
+    subst (λ (i : ℕ). i < 82) (sym (c .slot-place .ensures)) (placed (a .session .heard) (a .frame) (a .reading) _ _ (stepped .frame-step .ensures) (told .kept .given .1))
 
 enum-known-kept-2 : tie.Need-enum-known-kept-2
 enum-known-kept-2 c = search needs
 
-cast-slot-2 : tie.Need-cast-slot-2
-cast-slot-2 c = search needs
+slot-place-requires-2 : tie.Need-slot-place-requires-2
+slot-place-requires-2 c κs =
+    let told = c .before in
+    let stepped = told .before .before .before in
+    let a = stepped .before .before .args in
+    placed (a .session .heard) (a .frame) (a .reading) _ _ (stepped .frame-step .ensures) (told .kept2 .given .1)
 
 mul-slot-2 : tie.Need-mul-slot-2
 mul-slot-2 c = search needs
 
 element-set-from-slot-2 : tie.Need-element-set-from-slot-2
 element-set-from-slot-2 c =
-    let told = c .before in
+    let told = c .before .before in
     let stepped = told .before .before .before in
     let a = stepped .before .before .args in
-    placed (a .session .heard) (a .frame) (a .reading) _ _ (stepped .frame-step .ensures) (told .kept2 .given .1)
+    subst (λ (i : ℕ). i < 82) (sym (c .slot-place2 .ensures)) (placed (a .session .heard) (a .frame) (a .reading) _ _ (stepped .frame-step .ensures) (told .kept2 .given .1))
 
 returns : tie.Need-returns
 returns c =
@@ -50,17 +61,19 @@ returns c =
 
 returns-2 : tie.Need-returns-2
 returns-2 c =
-    let told = c .before in
+    let told = c .before .before in
     let stepped = told .before .before .before in
     let a = stepped .before .before .args in
-    taken-by (a .session) (a .frame) (a .reading) _ _ (stepped .frame-step .ensures) (told .kept .given .1)
+    ap (λ (i : ℕ). put (a .session) (stepped .frame-step .result .outcome) (stepped .frame-step .result .heard) (Keep.Reply i (told .kept .given .0 .1 .0))) (c .slot-place .ensures)
+    ∙ taken-by (a .session) (a .frame) (a .reading) _ _ (stepped .frame-step .ensures) (told .kept .given .1)
 
 returns-3 : tie.Need-returns-3
 returns-3 c =
-    let told = c .before in
+    let told = c .before .before in
     let stepped = told .before .before .before in
     let a = stepped .before .before .args in
-    taken-by (a .session) (a .frame) (a .reading) _ _ (stepped .frame-step .ensures) (told .kept2 .given .1)
+    ap (λ (i : ℕ). put (a .session) (stepped .frame-step .result .outcome) (stepped .frame-step .result .heard) (Keep.Ack i (told .kept2 .given .0 .1 .0))) (c .slot-place2 .ensures)
+    ∙ taken-by (a .session) (a .frame) (a .reading) _ _ (stepped .frame-step .ensures) (told .kept2 .given .1)
 
 pub process-feedback-frame-spec : {M : Type 1} → statement M
 process-feedback-frame-spec =
@@ -69,11 +82,11 @@ process-feedback-frame-spec =
     frame-step-requires
     enum-told
     enum-known-kept
-    cast-slot
+    slot-place-requires
     mul-slot
     element-set-from-slot
     enum-known-kept-2
-    cast-slot-2
+    slot-place-requires-2
     mul-slot-2
     element-set-from-slot-2
     returns
