@@ -24,7 +24,7 @@ pub fn accepts_limit(max: f32) -> bool
     max >= 0.0009765625 && max <= 65536.0
 }
 
-// The six limits from the three maxima, each minimum the negative of its maximum.
+// The six limits that three maxima stand for.
 pub fn from_maxima(p_max: f32, v_max: f32, t_max: f32) -> LimitCheck
     ensures { λ r. ⌜ r ≡ limits-of «p_max» «v_max» «t_max» ⌝ }
 {

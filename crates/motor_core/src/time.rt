@@ -1,4 +1,4 @@
-// A reading of the clock and a length of time, told apart as in Rust. Both count nanoseconds.
+// Points and spans of time, in nanoseconds: two types, so that neither can stand for the other.
 ghost use mathlib.Core.Path.{_≡_};
 ghost use Rattle.motor_core.specs.Time.{reading-accepted};
 

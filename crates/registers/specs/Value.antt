@@ -2,7 +2,6 @@
 use Prim.Native.Nat.{ℕ}
 use mathlib.Core.Bool.{Bool, true, false, _&&_, Bool·beq, cond}
 use lib.Dec.{eqb}
-use lib.Ieee as Ieee
 use lib.Ieee.{binary32, toBits, ofBits, nanBits}
 use Rattle.registers.specs.declared.RegisterDataType.{RegisterDataType}
 use Rattle.registers.specs.declared.RegisterDataType.the-variants as Typed

@@ -12,7 +12,7 @@ use Rattle.session.specs.declared.cache.Slot.{Slot}
 use Rattle.session.specs.declared.cache.Cached.{Cached}
 use Rattle.session.specs.declared.cache.Cached.the-variants.{Entry, Refused}
 
--- 'The register answers', a cached entry: empty, or a value together with its stamp
+-- 'The register answers', cached entries: nothing yet, or a value and when it came
 abbrev pub empty : Slot
 empty = record { entry = Empty }
 

@@ -24,7 +24,6 @@ use Rattle.received.specs.declared.feedback.Decoded.the-variants as Decode
 use Rattle.received.specs.declared.feedback.Received.the-variants as Receive
 use Rattle.received.specs.declared.feedback.SensorFeedback.{SensorFeedback}
 use Rattle.received.specs.declared.status.StatusName.the-variants.{Enabled}
-use Rattle.feedback.specs.declared.FeedbackCache.{FeedbackCache}
 use Rattle.feedback.specs.declared.FeedbackSnapshot.{FeedbackSnapshot}
 use Rattle.feedback.specs.declared.Latest.the-variants.{Snapshot}
 use Rattle.session.specs.Cache.{held, slot-of}

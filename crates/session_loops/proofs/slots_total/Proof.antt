@@ -1,6 +1,6 @@
 -- `session_loops::slots_total` meets its contract. Assumes nothing.
 use Prim.Native.Nat.{_-_, _≤_}
-use mathlib.Core.Path.{_≡_, refl, ap, _∙_}
+use mathlib.Core.Path.{_≡_, refl, _∙_}
 use borrow.Author.Needs.{needs}
 use Rattle.session.specs.Cache.{slot-of}
 use Rattle.bench_loops.specs.Loops.{total}

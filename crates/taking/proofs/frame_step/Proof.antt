@@ -1,6 +1,5 @@
 -- `taking::frame_step` meets its contract. Assumes nothing.
-use mathlib.Core.Path.{_≡_, sym, ap, _∙_}
-use mathlib.Core.Bool.{Bool}
+use mathlib.Core.Path.{ap, _∙_}
 use Rattle.received.specs.declared.feedback.Received.{Received}
 use Rattle.motor_core.proofs.Turned.{turned, passed}
 use Rattle.taking.specs.Taking as Spec
