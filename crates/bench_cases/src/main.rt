@@ -16,7 +16,7 @@ use motor_core::name::Name;
 use received::feedback::Decoded;
 use suggestion::suggest_models_by_limits;
 
-fn text(words: &[u8]) {
+pub(crate) fn text(words: &[u8]) {
     io::write_all(STDOUT_FILENO, words);
 }
 

@@ -1,10 +1,14 @@
 // What a session makes of a frame, at the ends of what is taken and counted.
 use crate::line;
+use crate::text;
 use feedback::Latest;
 use models::list::Maxima;
 use motor_core::bus::CanFrame;
 use motor_core::time::Instant;
 use session::Session;
+use session::cache::Cached;
+use session::cache::Entry;
+use session::cache::cached_entry;
 use session::start::Outcome as StartOutcome;
 use session::start::Started;
 use session::start::from_limits;
@@ -14,6 +18,8 @@ use taking::Taking;
 use taking::process_feedback_frame;
 
 const FEEDBACK: u64 = 0x1100_0000_0000_1e28;
+
+const TEN_IS_ONE: u64 = 0x110f_330a_0100_0000;
 
 fn maxima(p_max: f32) -> Maxima {
     Maxima {
@@ -101,8 +107,33 @@ fn patch_with_none() {
     );
 }
 
+// What is cached of a register's reply after 0F 33: its bits, or 0 with none; or the refusal.
+fn cached(name: &[u8], rid: u8) {
+    let taking = take(started(), TEN_IS_ONE, 5);
+    let session = taking.session;
+    let replies = session.replies;
+    let found = cached_entry(replies, rid);
+    match found {
+        Cached::Entry(entry) => line(name, bits_of(entry)),
+        Cached::Refused(number) => {
+            text(name);
+            line(b"refused ", number as u64);
+        }
+    }
+}
+
+fn bits_of(entry: Entry) -> u64 {
+    match entry {
+        Entry::Empty => 0,
+        Entry::Held(value, _) => registers::value_bits(value) as u64,
+    }
+}
+
 pub(crate) fn run() {
     numbers_end();
+    cached(b"register 10 after 0F 33: ", 10);
+    cached(b"register 9: ", 9);
+    cached(b"register 37: ", 37);
     reading(b"after reading 5, refusal of 5: ", 5);
     reading(b"of 4: ", 4);
     reading(b"of 4000000000000000: ", 0x4000_0000_0000_0000);

@@ -15,7 +15,7 @@ ghost use Prim.Native.Nat.{_+_, _≤_};
 ghost use lib.ListN.{length};
 
 // The output is written once it has so many bytes. The rest of its buffer has room for any answer;
-// the longest, a session that holds every entry, has 4,045 bytes.
+// the longest, a session that holds every entry, has some 4,000 bytes.
 const FULL: usize = 49_152;
 
 // After the whole lines of a text: where the unfinished line starts, whether it is the rest of one

@@ -1,6 +1,8 @@
 -- What a patch changes of the latest record, and what it does not reach. Assumes nothing.
 use Prim.Native.Nat.{ℕ}
 use mathlib.Core.Path.{_≡_, refl, ap}
+use Rattle.float.specs.Arithmetic.{float}
+use Rattle.received.specs.Status.{status-name}
 use Rattle.feedback.specs.Feedback.{has-record, patch-snapshot, patch-by, patch-latest}
 use Rattle.feedback.specs.declared.FeedbackCache.{FeedbackCache}
 use Rattle.feedback.specs.declared.FeedbackSnapshot.{FeedbackSnapshot}
@@ -32,6 +34,15 @@ module _ (cache : FeedbackCache) (status mos rotor : ℕ) where
 module _ (s : FeedbackSnapshot) (status mos rotor : ℕ) where
   abbrev after : FeedbackSnapshot
   after = patch-snapshot s status mos rotor
+
+  pub record Written : Type 0 where
+    pub code : after .state .«status_code» ≡ status
+    pub name : after .state .«status_name» ≡ status-name status
+    pub mos-temperature : after .state .«t_mos» ≡ float mos
+    pub rotor-temperature : after .state .«t_rotor» ≡ float rotor
+
+  pub patch-writes : Written
+  patch-writes = record { code = refl; name = refl; mos-temperature = refl; rotor-temperature = refl }
 
   pub record Kept : Type 0 where
     pub stamp : after .«received_at» ≡ s .«received_at»

@@ -30,6 +30,14 @@ module _ (motor-id feedback-id : ℕ) (limits : PvTLimits) where
   unfolding fresh
   fresh-acks = length-replicate 82 empty
 
+  pub fresh-motor-id : fresh motor-id feedback-id limits .heard .«motor_id» ≡ motor-id
+  unfolding fresh
+  fresh-motor-id = refl
+
+  pub fresh-feedback-id : fresh motor-id feedback-id limits .heard .«feedback_id» ≡ feedback-id
+  unfolding fresh
+  fresh-feedback-id = refl
+
   pub fresh-limits : fresh motor-id feedback-id limits .heard .limits ≡ limits
   unfolding fresh
   fresh-limits = refl

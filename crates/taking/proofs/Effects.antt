@@ -1,9 +1,9 @@
 -- What taking a frame does to a register's reply and ack, to the record and to the last reading, and what it leaves alone. Assumes nothing.
 use Prim.Native.Nat.{ℕ, _≤_, _<_, _^_}
 use mathlib.Core.Path.{_≡_, refl, sym, ap, _∙_, subst}
-use mathlib.Core.Bool.{Bool, true, false, cond}
+use mathlib.Core.Bool.{Bool, true, false, cond, true≢false}
 use mathlib.Core.List.{List}
-use mathlib.Core.Option.{none, some}
+use mathlib.Core.Option.{Option, none, some}
 use native.Mathlib.Nat.{le-refl}
 use lib.Dec.{T, eqb, eqb→eq, eqb-refl}
 use lib.ListN.{length, set, length-set}
@@ -67,6 +67,28 @@ acks-length : (slots : List Slot) (r : Received) (t : Instant) → length (acks-
 acks-length slots (Reply r v) t = refl
 acks-length slots (Ack r v) t = length-set slots r (held v t)
 acks-length slots (Feedback f) t = refl
+
+-- no frame is of a register that is not known
+another : (rid r n : ℕ) (v : RegisterValue) → known rid ≡ false → r ≡ n → known n ≡ true → _≡_ {A = Option RegisterValue} (cond (eqb rid r) (some v) none) none
+another rid r n v u e k = go (eqb rid r) (eqb→eq rid r)
+  where
+    go : (b : Bool) → (T b → rid ≡ r) → _≡_ {A = Option RegisterValue} (cond b (some v) none) none
+    go true same = absurd (true≢false (sym k ∙ ap known (sym (same tt ∙ e)) ∙ u))
+    go false same = refl
+
+unknown-replied : (rid n : ℕ) (r : Received) → known rid ≡ false → OfRegister r n → replied rid r ≡ none
+unknown-replied rid n (Reply r v) u (e, k) = another rid r n v u e k
+unknown-replied rid n (Ack r v) u of = refl
+unknown-replied rid n (Feedback f) u of = refl
+
+unknown-acked : (rid n : ℕ) (r : Received) → known rid ≡ false → OfRegister r n → acked rid r ≡ none
+unknown-acked rid n (Reply r v) u of = refl
+unknown-acked rid n (Ack r v) u (e, k) = another rid r n v u e k
+unknown-acked rid n (Feedback f) u of = refl
+
+none-taken : {A : Type 0} (o : Outcome) {brought : Option A} → brought ≡ none → if-taken o brought ≡ none
+none-taken Taken e = e
+none-taken (Refused n) e = refl
 
 -- a register's value in a frame goes by the frame's bytes alone
 pub replied-by-bytes : (rid : ℕ) (l m : PvTLimits) (bytes : List ℕ) → replied rid (received l bytes) ≡ replied rid (received m bytes)
@@ -181,3 +203,11 @@ module _ (s : Session) (frame : CanFrame) (t : Instant) where
   pub turned-back : (n : ℕ) → take-frame s frame t .outcome ≡ Refused n → after ≡ s
   unfolding take-frame
   turned-back n e = ap (λ (o : Outcome). take-by o s frame t) e
+
+  -- a slot whose number no register has
+  pub unknown-stays : (rid : ℕ) → known rid ≡ false → length (s .replies) ≡ 82 → length (s .acks) ≡ 82
+      → (slot-of (after .replies) rid ≡ slot-of (s .replies) rid) × (slot-of (after .acks) rid ≡ slot-of (s .acks) rid)
+  unknown-stays rid u replies acks = (
+    reply-after-frame rid replies ∙ ap (λ (v : Option RegisterValue). slot-with v t (slot-of (s .replies) rid)) (none-taken outcome (unknown-replied rid _ (says (s .heard) frame) u of)),
+    ack-after-frame rid acks ∙ ap (λ (v : Option RegisterValue). slot-with v t (slot-of (s .acks) rid)) (none-taken outcome (unknown-acked rid _ (says (s .heard) frame) u of)),
+  )
