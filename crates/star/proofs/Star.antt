@@ -24,7 +24,7 @@ use Rattle.received.specs.Status.{status-name}
 use Rattle.feedback.specs.declared.Latest.the-variants.{Snapshot}
 use Rattle.session.specs.Cache.{held, slot-of}
 use Rattle.session.specs.Session.{fresh}
-use Rattle.taking.specs.Effects.{if-taken, slot-with, record-with}
+use Rattle.taking.specs.Effects.{if-taken, of-register, slot-with, record-with}
 use Rattle.taking.specs.Taking.{frame-outcome, take-frame}
 use Rattle.taking.specs.declared.Outcome.{Outcome}
 use Rattle.taking.specs.declared.Outcome.the-variants.{Taken}
@@ -41,7 +41,7 @@ register-stored : (reading : Instant) → reading .0 ≤ 2 ^ 62 → slot-of (tak
 unfolding fresh registers elem data-type-of value-of class received register-value
 register-stored reading h =
     reply-after-frame session (on-bus ten-is-one) reading 10 refl
-    ∙ ap (λ (o : Outcome). slot-with (if-taken o (some (UInt32 1))) reading (slot-of (session .replies) 10)) (taken (on-bus ten-is-one) reading h)
+    ∙ ap (λ (o : Outcome). slot-with (of-register 10 (if-taken o (some (10, UInt32 1)))) reading (slot-of (session .replies) 10)) (taken (on-bus ten-is-one) reading h)
 
 record-stored : (reading : Instant) → reading .0 ≤ 2 ^ 62 → take-frame session (on-bus at-minimum) reading .session .heard .feedback ≡ record { latest = Snapshot (first-record reading); sequence = 1 }
 unfolding fresh round div ofInt neg sub mul add registers elem uint-to-float class feedback-of received status-name

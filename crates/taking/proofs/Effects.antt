@@ -6,7 +6,7 @@ use mathlib.Core.List.{List}
 use mathlib.Core.Option.{Option, none, some}
 use native.Mathlib.Nat.{le-refl}
 use lib.Dec.{T, eqb, eqb→eq, eqb-refl}
-use lib.ListN.{length, set, length-set}
+use lib.ListN.{length, length-set}
 use lib.Seq.{getD-set-same, getD-set-other}
 use Rattle.motor_core.specs.declared.bus.CanFrame.{CanFrame}
 use Rattle.motor_core.specs.declared.model.PvTLimits.{PvTLimits}
@@ -20,94 +20,85 @@ use Rattle.received.specs.declared.feedback.FrameClass.{FrameClass}
 use Rattle.received.specs.declared.feedback.FrameClass.the-variants as Class
 use Rattle.received.specs.declared.feedback.Received.{Received}
 use Rattle.received.specs.declared.feedback.Received.the-variants.{Reply, Ack, Feedback}
-use Rattle.received.proofs.OfRegister.{of-register}
+use Rattle.received.proofs.OfRegister.{of-register as of-d3}
 use Rattle.feedback.specs.declared.FeedbackCache.{FeedbackCache}
 use Rattle.session.specs.Cache.{empty, held, slot-of}
 use Rattle.session.specs.declared.Session.{Session}
 use Rattle.session.specs.declared.cache.Slot.{Slot}
-use Rattle.taking.specs.Effects.{replied, acked, reported, reply-taken, ack-taken, state-taken, if-taken, slot-with, record-with, last-with}
-use Rattle.taking.specs.Taking.{frame-outcome, feedback-after, replies-after, acks-after, session-after, says, take-by, take-frame}
+use Rattle.taking.specs.Effects.{reported, if-taken, reply-taken, ack-taken, state-taken, of-register, slot-with, record-with, last-with}
+use Rattle.taking.specs.Taking.{frame-outcome, feedback-after, reply-of, ack-of, stored, session-after, says, take-by, take-frame}
 use Rattle.taking.specs.declared.Outcome.{Outcome}
 use Rattle.taking.specs.declared.Outcome.the-variants.{Taken, Refused}
 use Rattle.taking.proofs.Outcomes.{taken-reading}
 
--- one register's slot where a value is held for a known register
-slot-set : (slots : List Slot) (rid r n : ℕ) (v : RegisterValue) (t : Instant) → length slots ≡ 82 → r ≡ n → known n ≡ true
-    → slot-of (set slots r (held v t)) rid ≡ slot-with (cond (eqb rid r) (some v) none) t (slot-of slots rid)
-slot-set slots rid r n v t size e k = go (eqb rid r) (eqb→eq rid r) (λ same. subst (λ (i : ℕ). T (eqb rid i)) same (eqb-refl rid))
+-- a register that is known, where one is named
+abbrev Known : Option (ℕ × RegisterValue) → Type 0
+Known none = Unit {0}
+Known (some x) = known (x .0) ≡ true
+
+-- one register's slot, once a value is stored
+slot-stored : (slots : List Slot) (rid : ℕ) (x : Option (ℕ × RegisterValue)) (t : Instant) → length slots ≡ 82 → Known x → slot-of (stored x t slots) rid ≡ slot-with (of-register rid x) t (slot-of slots rid)
+slot-stored slots rid none t size k = refl
+slot-stored slots rid (some x) t size k = go (eqb rid (x .0)) (eqb→eq rid (x .0)) (λ same. subst (λ (i : ℕ). T (eqb rid i)) same (eqb-refl rid))
   where
-    here : r < length slots
-    here = subst (λ (m : ℕ). r < m) (sym size) (subst (λ (i : ℕ). i < 82) (sym e) (known-below n k))
+    here : x .0 < length slots
+    here = subst (λ (m : ℕ). x .0 < m) (sym size) (known-below (x .0) k)
 
-    go : (b : Bool) → (T b → rid ≡ r) → (rid ≡ r → T b) → slot-of (set slots r (held v t)) rid ≡ slot-with (cond b (some v) none) t (slot-of slots rid)
-    go true same of = ap (slot-of (set slots r (held v t))) (same tt) ∙ getD-set-same slots r (held v t) empty here
-    go false same of = getD-set-other slots r rid (held v t) empty (λ e. of e)
+    go : (b : Bool) → (T b → rid ≡ x .0) → (rid ≡ x .0 → T b) → slot-of (stored (some x) t slots) rid ≡ slot-with (cond b (some (x .1)) none) t (slot-of slots rid)
+    go true same of = ap (slot-of (stored (some x) t slots)) (same tt) ∙ getD-set-same slots (x .0) (held (x .1) t) empty here
+    go false same of = getD-set-other slots (x .0) rid (held (x .1) t) empty (λ e. of e)
 
-reply-slot : (slots : List Slot) (rid n : ℕ) (r : Received) (t : Instant) → length slots ≡ 82 → OfRegister r n → slot-of (replies-after slots r t) rid ≡ slot-with (replied rid r) t (slot-of slots rid)
-reply-slot slots rid n (Reply r v) t size (e, k) = slot-set slots rid r n v t size e k
-reply-slot slots rid n (Ack r v) t size of = refl
-reply-slot slots rid n (Feedback f) t size of = refl
+length-stored : (x : Option (ℕ × RegisterValue)) (t : Instant) (slots : List Slot) → length (stored x t slots) ≡ length slots
+length-stored none t slots = refl
+length-stored (some x) t slots = length-set slots (x .0) (held (x .1) t)
 
-ack-slot : (slots : List Slot) (rid n : ℕ) (r : Received) (t : Instant) → length slots ≡ 82 → OfRegister r n → slot-of (acks-after slots r t) rid ≡ slot-with (acked rid r) t (slot-of slots rid)
-ack-slot slots rid n (Reply r v) t size of = refl
-ack-slot slots rid n (Ack r v) t size (e, k) = slot-set slots rid r n v t size e k
-ack-slot slots rid n (Feedback f) t size of = refl
+-- nothing is brought of a register that is not known
+unknown-none : (rid : ℕ) (x : Option (ℕ × RegisterValue)) → known rid ≡ false → Known x → of-register rid x ≡ none
+unknown-none rid none u k = refl
+unknown-none rid (some x) u k = go (eqb rid (x .0)) (eqb→eq rid (x .0))
+  where
+    go : (b : Bool) → (T b → rid ≡ x .0) → _≡_ {A = Option RegisterValue} (cond b (some (x .1)) none) none
+    go true same = absurd (true≢false (sym k ∙ ap known (sym (same tt)) ∙ u))
+    go false same = refl
+
+-- what a frame says of a register goes by its bytes alone, and the register is known
+module _ (l : PvTLimits) (bytes : List ℕ) where
+  pub reply-by-bytes : (m : PvTLimits) → reply-of (received l bytes) ≡ reply-of (received m bytes)
+  unfolding received
+  reply-by-bytes m = go (class-of bytes)
+    where
+      go : (k : FrameClass) → reply-of (by-class k l bytes) ≡ reply-of (by-class k m bytes)
+      go Class.Reply = refl
+      go Class.Ack = refl
+      go Class.Feedback = refl
+
+  pub ack-by-bytes : (m : PvTLimits) → ack-of (received l bytes) ≡ ack-of (received m bytes)
+  unfolding received
+  ack-by-bytes m = go (class-of bytes)
+    where
+      go : (k : FrameClass) → ack-of (by-class k l bytes) ≡ ack-of (by-class k m bytes)
+      go Class.Reply = refl
+      go Class.Ack = refl
+      go Class.Feedback = refl
+
+reply-known : (r : Received) (n : ℕ) → OfRegister r n → Known (reply-of r)
+reply-known (Reply rid v) n (e, k) = ap known e ∙ k
+reply-known (Ack rid v) n of = tt
+reply-known (Feedback f) n of = tt
+
+ack-known : (r : Received) (n : ℕ) → OfRegister r n → Known (ack-of r)
+ack-known (Reply rid v) n of = tt
+ack-known (Ack rid v) n (e, k) = ap known e ∙ k
+ack-known (Feedback f) n of = tt
+
+taken-known : (o : Outcome) (x : Option (ℕ × RegisterValue)) → Known x → Known (if-taken o x)
+taken-known Taken x k = k
+taken-known (Refused n) x k = tt
 
 record-of : (cache : FeedbackCache) (id : ℕ) (r : Received) (t : Instant) → feedback-after cache id r t ≡ record-with (reported id r) t cache
 record-of cache id (Reply r v) t = refl
 record-of cache id (Ack r v) t = refl
 record-of cache id (Feedback f) t = refl
-
-replies-length : (slots : List Slot) (r : Received) (t : Instant) → length (replies-after slots r t) ≡ length slots
-replies-length slots (Reply r v) t = length-set slots r (held v t)
-replies-length slots (Ack r v) t = refl
-replies-length slots (Feedback f) t = refl
-
-acks-length : (slots : List Slot) (r : Received) (t : Instant) → length (acks-after slots r t) ≡ length slots
-acks-length slots (Reply r v) t = refl
-acks-length slots (Ack r v) t = length-set slots r (held v t)
-acks-length slots (Feedback f) t = refl
-
--- no frame is of a register that is not known
-another : (rid r n : ℕ) (v : RegisterValue) → known rid ≡ false → r ≡ n → known n ≡ true → _≡_ {A = Option RegisterValue} (cond (eqb rid r) (some v) none) none
-another rid r n v u e k = go (eqb rid r) (eqb→eq rid r)
-  where
-    go : (b : Bool) → (T b → rid ≡ r) → _≡_ {A = Option RegisterValue} (cond b (some v) none) none
-    go true same = absurd (true≢false (sym k ∙ ap known (sym (same tt ∙ e)) ∙ u))
-    go false same = refl
-
-unknown-replied : (rid n : ℕ) (r : Received) → known rid ≡ false → OfRegister r n → replied rid r ≡ none
-unknown-replied rid n (Reply r v) u (e, k) = another rid r n v u e k
-unknown-replied rid n (Ack r v) u of = refl
-unknown-replied rid n (Feedback f) u of = refl
-
-unknown-acked : (rid n : ℕ) (r : Received) → known rid ≡ false → OfRegister r n → acked rid r ≡ none
-unknown-acked rid n (Reply r v) u of = refl
-unknown-acked rid n (Ack r v) u (e, k) = another rid r n v u e k
-unknown-acked rid n (Feedback f) u of = refl
-
-none-taken : {A : Type 0} (o : Outcome) {brought : Option A} → brought ≡ none → if-taken o brought ≡ none
-none-taken Taken e = e
-none-taken (Refused n) e = refl
-
--- a register's value in a frame goes by the frame's bytes alone
-pub replied-by-bytes : (rid : ℕ) (l m : PvTLimits) (bytes : List ℕ) → replied rid (received l bytes) ≡ replied rid (received m bytes)
-unfolding received
-replied-by-bytes rid l m bytes = go (class-of bytes)
-  where
-    go : (k : FrameClass) → replied rid (by-class k l bytes) ≡ replied rid (by-class k m bytes)
-    go Class.Reply = refl
-    go Class.Ack = refl
-    go Class.Feedback = refl
-
-pub acked-by-bytes : (rid : ℕ) (l m : PvTLimits) (bytes : List ℕ) → acked rid (received l bytes) ≡ acked rid (received m bytes)
-unfolding received
-acked-by-bytes rid l m bytes = go (class-of bytes)
-  where
-    go : (k : FrameClass) → acked rid (by-class k l bytes) ≡ acked rid (by-class k m bytes)
-    go Class.Reply = refl
-    go Class.Ack = refl
-    go Class.Feedback = refl
 
 module _ (s : Session) (frame : CanFrame) (t : Instant) where
   abbrev after : Session
@@ -116,25 +107,45 @@ module _ (s : Session) (frame : CanFrame) (t : Instant) where
   abbrev outcome : Outcome
   outcome = frame-outcome (s .heard) frame t
 
-  of : OfRegister (says (s .heard) frame) (d (frame .«data») 3)
-  of = of-register (s .heard .limits) (frame .«data»)
+  -- what it brings of a register
+  abbrev reply : Option (ℕ × RegisterValue)
+  reply = reply-taken (s .heard) frame t
 
-  -- a register's reply, and its ack
-  pub reply-after-frame : (rid : ℕ) → length (s .replies) ≡ 82 → slot-of (after .replies) rid ≡ slot-with (reply-taken rid (s .heard) frame t) t (slot-of (s .replies) rid)
+  abbrev ack : Option (ℕ × RegisterValue)
+  ack = ack-taken (s .heard) frame t
+
+  named : OfRegister (says (s .heard) frame) (d (frame .«data») 3)
+  named = of-d3 (s .heard .limits) (frame .«data»)
+
+  -- the replies, and the acks
+  pub replies-after-frame : after .replies ≡ stored (reply-taken (s .heard) frame t) t (s .replies)
   unfolding take-frame
-  reply-after-frame rid size = go outcome
+  replies-after-frame = go outcome
     where
-      go : (o : Outcome) → slot-of (take-by o s frame t .replies) rid ≡ slot-with (if-taken o (replied rid (says (s .heard) frame))) t (slot-of (s .replies) rid)
-      go Taken = reply-slot (s .replies) rid _ (says (s .heard) frame) t size of
+      go : (o : Outcome) → take-by o s frame t .replies ≡ stored (if-taken o (reply-of (says (s .heard) frame))) t (s .replies)
+      go Taken = refl
       go (Refused n) = refl
 
-  pub ack-after-frame : (rid : ℕ) → length (s .acks) ≡ 82 → slot-of (after .acks) rid ≡ slot-with (ack-taken rid (s .heard) frame t) t (slot-of (s .acks) rid)
+  pub acks-after-frame : after .acks ≡ stored (ack-taken (s .heard) frame t) t (s .acks)
   unfolding take-frame
-  ack-after-frame rid size = go outcome
+  acks-after-frame = go outcome
     where
-      go : (o : Outcome) → slot-of (take-by o s frame t .acks) rid ≡ slot-with (if-taken o (acked rid (says (s .heard) frame))) t (slot-of (s .acks) rid)
-      go Taken = ack-slot (s .acks) rid _ (says (s .heard) frame) t size of
+      go : (o : Outcome) → take-by o s frame t .acks ≡ stored (if-taken o (ack-of (says (s .heard) frame))) t (s .acks)
+      go Taken = refl
       go (Refused n) = refl
+
+  reply-taken-known : Known reply
+  reply-taken-known = taken-known outcome (reply-of (says (s .heard) frame)) (reply-known (says (s .heard) frame) _ named)
+
+  ack-taken-known : Known ack
+  ack-taken-known = taken-known outcome (ack-of (says (s .heard) frame)) (ack-known (says (s .heard) frame) _ named)
+
+  -- one register's reply, and its ack
+  pub reply-after-frame : (rid : ℕ) → length (s .replies) ≡ 82 → slot-of (after .replies) rid ≡ slot-with (of-register rid (reply-taken (s .heard) frame t)) t (slot-of (s .replies) rid)
+  reply-after-frame rid size = ap (λ (slots : List Slot). slot-of slots rid) replies-after-frame ∙ slot-stored (s .replies) rid reply t size reply-taken-known
+
+  pub ack-after-frame : (rid : ℕ) → length (s .acks) ≡ 82 → slot-of (after .acks) rid ≡ slot-with (of-register rid (ack-taken (s .heard) frame t)) t (slot-of (s .acks) rid)
+  ack-after-frame rid size = ap (λ (slots : List Slot). slot-of slots rid) acks-after-frame ∙ slot-stored (s .acks) rid ack t size ack-taken-known
 
   -- the record with its number and stamp
   pub record-after-frame : after .heard .feedback ≡ record-with (state-taken (s .heard) frame t) t (s .heard .feedback)
@@ -191,8 +202,8 @@ module _ (s : Session) (frame : CanFrame) (t : Instant) where
     feedback-id = stays (λ (x : Session). x .heard .«feedback_id») refl;
     limits = stays (λ (x : Session). x .heard .limits) refl;
     run = stays (λ (x : Session). x .run) refl;
-    replies = stays (λ (x : Session). length (x .replies)) (replies-length (s .replies) (says (s .heard) frame) t);
-    acks = stays (λ (x : Session). length (x .acks)) (acks-length (s .acks) (says (s .heard) frame) t);
+    replies = ap length replies-after-frame ∙ length-stored reply t (s .replies);
+    acks = ap length acks-after-frame ∙ length-stored ack t (s .acks);
   }
 
   -- what the call answers, and that a frame which is turned back leaves all
@@ -208,6 +219,6 @@ module _ (s : Session) (frame : CanFrame) (t : Instant) where
   pub unknown-stays : (rid : ℕ) → known rid ≡ false → length (s .replies) ≡ 82 → length (s .acks) ≡ 82
       → (slot-of (after .replies) rid ≡ slot-of (s .replies) rid) × (slot-of (after .acks) rid ≡ slot-of (s .acks) rid)
   unknown-stays rid u replies acks = (
-    reply-after-frame rid replies ∙ ap (λ (v : Option RegisterValue). slot-with v t (slot-of (s .replies) rid)) (none-taken outcome (unknown-replied rid _ (says (s .heard) frame) u of)),
-    ack-after-frame rid acks ∙ ap (λ (v : Option RegisterValue). slot-with v t (slot-of (s .acks) rid)) (none-taken outcome (unknown-acked rid _ (says (s .heard) frame) u of)),
+    reply-after-frame rid replies ∙ ap (λ (v : Option RegisterValue). slot-with v t (slot-of (s .replies) rid)) (unknown-none rid reply u reply-taken-known),
+    ack-after-frame rid acks ∙ ap (λ (v : Option RegisterValue). slot-with v t (slot-of (s .acks) rid)) (unknown-none rid ack u ack-taken-known),
   )

@@ -14,20 +14,9 @@ use Rattle.feedback.specs.declared.MotorFeedbackState.{MotorFeedbackState}
 use Rattle.session.specs.Cache.{held}
 use Rattle.session.specs.declared.Heard.{Heard}
 use Rattle.session.specs.declared.cache.Slot.{Slot}
-use Rattle.taking.specs.Taking.{frame-outcome, says}
+use Rattle.taking.specs.Taking.{frame-outcome, reply-of, ack-of, says}
 use Rattle.taking.specs.declared.Outcome.{Outcome}
 use Rattle.taking.specs.declared.Outcome.the-variants.{Taken, Refused}
-
--- the value of a register that a frame says in a reply, and in an ack
-abbrev pub replied : ℕ → Received → Option RegisterValue
-replied rid (Reply r value) = cond (eqb rid r) (some value) none
-replied rid (Ack r value) = none
-replied rid (Feedback f) = none
-
-abbrev pub acked : ℕ → Received → Option RegisterValue
-acked rid (Reply r value) = none
-acked rid (Ack r value) = cond (eqb rid r) (some value) none
-acked rid (Feedback f) = none
 
 -- the state that a frame under this id says
 abbrev pub reported : ℕ → Received → Option MotorFeedbackState
@@ -40,20 +29,25 @@ abbrev pub if-taken : {A : Type 0} → Outcome → Option A → Option A
 if-taken Taken brought = brought
 if-taken (Refused number) brought = none
 
-abbrev pub reply-taken : ℕ → Heard → CanFrame → Instant → Option RegisterValue
-reply-taken rid h frame reading = if-taken (frame-outcome h frame reading) (replied rid (says h frame))
+abbrev pub reply-taken : Heard → CanFrame → Instant → Option (ℕ × RegisterValue)
+reply-taken h frame reading = if-taken (frame-outcome h frame reading) (reply-of (says h frame))
 
-abbrev pub ack-taken : ℕ → Heard → CanFrame → Instant → Option RegisterValue
-ack-taken rid h frame reading = if-taken (frame-outcome h frame reading) (acked rid (says h frame))
+abbrev pub ack-taken : Heard → CanFrame → Instant → Option (ℕ × RegisterValue)
+ack-taken h frame reading = if-taken (frame-outcome h frame reading) (ack-of (says h frame))
 
 abbrev pub state-taken : Heard → CanFrame → Instant → Option MotorFeedbackState
 state-taken h frame reading = if-taken (frame-outcome h frame reading) (reported (frame .«arbitration_id») (says h frame))
 
--- a slot, and the record, with what was brought
+-- what was brought of one register, and its slot with that
+abbrev pub of-register : ℕ → Option (ℕ × RegisterValue) → Option RegisterValue
+of-register rid none = none
+of-register rid (some x) = cond (eqb rid (x .0)) (some (x .1)) none
+
 abbrev pub slot-with : Option RegisterValue → Instant → Slot → Slot
 slot-with none reading slot = slot
 slot-with (some value) reading slot = held value reading
 
+-- the record with the state that was brought, and the last reading
 abbrev pub record-with : Option MotorFeedbackState → Instant → FeedbackCache → FeedbackCache
 record-with none reading cache = cache
 record-with (some state) reading cache = update cache state reading

@@ -2,11 +2,13 @@
 use Prim.Native.Nat.{ℕ}
 use mathlib.Core.Bool.{cond}
 use mathlib.Core.List.{List}
+use mathlib.Core.Option.{Option, none, some}
 use lib.ListN.{set}
 use Rattle.motor_core.specs.Error as Error
 use Rattle.motor_core.specs.Time.{reading-accepted}
 use Rattle.motor_core.specs.declared.bus.CanFrame.{CanFrame}
 use Rattle.motor_core.specs.declared.time.Instant.{Instant}
+use Rattle.registers.specs.declared.RegisterValue.{RegisterValue}
 use Rattle.received.specs.Received.{received}
 use Rattle.received.specs.declared.feedback.Received.{Received}
 use Rattle.received.specs.declared.feedback.Received.the-variants.{Reply, Ack, Feedback}
@@ -40,24 +42,28 @@ feedback-after cache id (Ack rid value) reading = cache
 abbrev pub heard-after : Heard → ℕ → Received → Instant → Heard
 heard-after h id received reading = heard-at h (feedback-after (h .feedback) id received reading) reading
 
--- 'The register answers': a reply goes into its register's slot of the replies, stamped with the frame's reading
-abbrev pub replies-after : List Slot → Received → Instant → List Slot
-replies-after replies (Reply rid value) reading = set replies rid (held value reading)
-replies-after replies (Ack rid value) reading = replies
-replies-after replies (Feedback f) reading = replies
+-- the register and value that a reply says, and an ack
+abbrev pub reply-of : Received → Option (ℕ × RegisterValue)
+reply-of (Reply rid value) = some (rid, value)
+reply-of (Ack rid value) = none
+reply-of (Feedback f) = none
 
--- and an ack into that of the acks
-abbrev pub acks-after : List Slot → Received → Instant → List Slot
-acks-after acks (Reply rid value) reading = acks
-acks-after acks (Ack rid value) reading = set acks rid (held value reading)
-acks-after acks (Feedback f) reading = acks
+abbrev pub ack-of : Received → Option (ℕ × RegisterValue)
+ack-of (Reply rid value) = none
+ack-of (Ack rid value) = some (rid, value)
+ack-of (Feedback f) = none
 
--- a session after a frame, by what the frame says; the run is left alone
+-- 'The register answers': a value goes into its register's slot, stamped with the frame's reading
+abbrev pub stored : Option (ℕ × RegisterValue) → Instant → List Slot → List Slot
+stored none reading slots = slots
+stored (some x) reading slots = set slots (x .0) (held (x .1) reading)
+
+-- a session after a frame, by what the frame says: replies and acks have a cache each, and the run is left alone
 abbrev pub session-after : Session → ℕ → Received → Instant → Session
 session-after s id received reading = record {
   heard = heard-after (s .heard) id received reading;
-  replies = replies-after (s .replies) received reading;
-  acks = acks-after (s .acks) received reading;
+  replies = stored (reply-of received) reading (s .replies);
+  acks = stored (ack-of received) reading (s .acks);
   run = s .run;
 }
 
