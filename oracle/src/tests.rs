@@ -388,20 +388,22 @@ fn random_scripts_are_answered_alike_when_run() {
 fn random_scripts_leave_out_calls() {
     let recipe = Recipe {
         families: random::families("sessions").expect("kinds"),
-        without: vec!["frame-lent".to_string()],
+        without: vec!["frame-lent".to_string(), "accepts".to_string()],
     };
     let chunk = random::chunk(1, 20_000, &recipe);
     let mut oracle = Oracle::default();
-    let (mut answers, mut lines, mut lent) = (Vec::new(), 0, 0);
+    let (mut answers, mut lines, mut left) = (Vec::new(), 0, 0);
     lines::answer_lines(chunk.script.as_slice(), &mut answers, |line, out| {
         lines += 1;
-        if oracle.session().is_some() && line.starts_with(b"frame-lent ") {
-            lent += 1;
+        if oracle.session().is_some()
+            && (line.starts_with(b"frame-lent ") || line.starts_with(b"accepts "))
+        {
+            left += 1;
         }
         oracle.line(line, out)
     })
     .expect("no input or output fails");
-    assert_eq!((lines, lent), (chunk.lines, 0));
+    assert_eq!((lines, left), (chunk.lines, 0));
     assert!(10_000 < lines && lines < 19_000);
     assert!(answers == chunk.answers);
 }

@@ -1,14 +1,14 @@
 // What a session makes of a frame, at the ends of what is taken and counted.
 use crate::line;
 use crate::text;
+use cache::Cached;
+use cache::Entry;
+use cache::cached_entry;
 use feedback::Latest;
 use models::list::Maxima;
 use motor_core::bus::CanFrame;
 use motor_core::time::Instant;
 use session::Session;
-use session::cache::Cached;
-use session::cache::Entry;
-use session::cache::cached_entry;
 use session::start::Outcome as StartOutcome;
 use session::start::Started;
 use session::start::from_limits;

@@ -7,8 +7,11 @@ mod listing;
 mod print;
 mod replies;
 mod reports;
+mod results;
+mod running;
 mod session_text;
 mod sessions;
+mod values;
 
 fn main() {
     let mut input = io::large_buffer();

@@ -1,6 +1,8 @@
 // What a call on the session is told.
 use crate::print::put_flag;
 use crate::print::put_refused;
+use crate::results::put_told;
+use runs::Told;
 use text::put;
 
 pub(crate) enum Reply {
@@ -11,6 +13,7 @@ pub(crate) enum Reply {
     Taken,
     Accepts(bool),
     Patched(bool),
+    Run(Told),
 }
 
 // The reply with its newline.
@@ -28,5 +31,6 @@ fn put_reply(reply: Reply, output: &mut [u8], to: usize) -> usize {
         Reply::Taken => put(output, to, b"taken"),
         Reply::Accepts(flag) => put_flag(output, to, b"accepts ", flag),
         Reply::Patched(flag) => put_flag(output, to, b"patched ", flag),
+        Reply::Run(told) => put_told(told, output, to),
     }
 }

@@ -1,24 +1,23 @@
 // The answer to the call `session`.
 use crate::print::put_flag;
-use crate::print::put_measured;
 use crate::print::put_next;
 use crate::print::put_numbered;
-use crate::print::put_status_name;
 use crate::replies::Reply;
 use crate::replies::put_line;
 use crate::sessions::State;
+use crate::values::put_feedback_state;
+use crate::values::put_value;
+use cache::Entry;
+use cache::Slot;
 use feedback::FeedbackSnapshot;
 use feedback::Latest;
-use feedback::MotorFeedbackState;
 use motor_core::time::Instant;
 use registers::RegisterValue;
 use session::Heard;
+use session::Phase;
 use session::Run;
 use session::Session;
-use session::cache::Entry;
-use session::cache::Slot;
 use text::put;
-use text::put_hex;
 
 // The session in use, with its newline.
 pub(crate) fn put_state(state: State, output: &mut [u8], to: usize) -> usize {
@@ -51,8 +50,10 @@ fn put_heard(heard: Heard, run: Run, output: &mut [u8], to: usize) -> usize {
 }
 
 fn is_open(run: Run) -> bool {
-    match run {
-        Run::None => false,
+    let phase = run.phase;
+    match phase {
+        Phase::Closed => false,
+        Phase::Open(_) => true,
     }
 }
 
@@ -69,23 +70,6 @@ fn put_snapshot(snapshot: FeedbackSnapshot, output: &mut [u8], to: usize) -> usi
     let at = put_numbered(output, to, b" latest ", snapshot.sequence);
     let at = put_next(output, at, received_at.0);
     put_feedback_state(state, output, at)
-}
-
-fn put_feedback_state(state: MotorFeedbackState, output: &mut [u8], to: usize) -> usize {
-    let name = state.status_name;
-    let at = put_next(output, to, state.can_id as u64);
-    let at = put_next(output, at, state.arbitration_id as u64);
-    let at = put_next(output, at, state.status_code as u64);
-    let at = put_status_name(name, output, at);
-    put_measured(
-        output,
-        at,
-        state.pos,
-        state.vel,
-        state.torq,
-        state.t_mos,
-        state.t_rotor,
-    )
 }
 
 // The words and the entries. A slot's place is its register's number.
@@ -110,13 +94,4 @@ fn put_held(rid: u64, value: RegisterValue, stamp: Instant, output: &mut [u8], t
     let at = put_next(output, to, rid);
     let at = put_value(value, output, at);
     put_next(output, at, stamp.0)
-}
-
-fn put_value(value: RegisterValue, output: &mut [u8], to: usize) -> usize {
-    let bits = registers::value_bits(value) as u64;
-    if registers::holds_u32(value) {
-        return put_numbered(output, to, b" u32 ", bits);
-    }
-    let at = put(output, to, b" f32 ");
-    put_hex(output, at, bits, 8)
 }

@@ -4,10 +4,12 @@ use crate::fields::low16;
 use crate::fields::low32;
 use crate::fields::real;
 use crate::replies::Reply;
+use crate::running;
 use models::list::Maxima;
 use models::list::damiao_models;
 use motor_core::bus::CanFrame;
 use motor_core::time::Instant;
+use runs::Turn;
 use script::Call;
 use script::calls;
 use session::Heard;
@@ -54,16 +56,17 @@ pub(crate) fn answer(state: State, call: Call, line: &[u8]) -> Step {
         };
     }
     let session = state.session;
+    answer_in(session, call)
+}
+
+fn answer_in(session: Session, call: Call) -> Step {
+    let code = call.code;
     match code {
+        calls::GET_U32..=calls::STORE => turned(running::started(session, call)),
+        calls::CLOCK..=calls::SLEPT => turned(running::answered(session, call)),
         calls::FRAME => take(session, call),
         calls::PATCH => patch(session, call),
-        _ => {
-            let heard = session.heard;
-            Step {
-                state,
-                reply: look(heard, call),
-            }
-        }
+        _ => look(session, call),
     }
 }
 
@@ -108,6 +111,13 @@ fn in_use(session: Session, reply: Reply) -> Step {
     }
 }
 
+// A run's call that is refused gives back the session as it was.
+fn turned(turn: Turn) -> Step {
+    let session = turn.session;
+    let told = turn.told;
+    in_use(session, Reply::Run(told))
+}
+
 fn frame_of(id: u64, data: u64, dlc: u64, flag: u64) -> CanFrame {
     CanFrame {
         arbitration_id: low32(id),
@@ -141,7 +151,12 @@ fn patch(session: Session, call: Call) -> Step {
 }
 
 // The calls that leave the session as it is, and those whose engine is to come.
-fn look(heard: Heard, call: Call) -> Reply {
+fn look(session: Session, call: Call) -> Step {
+    let heard = session.heard;
+    in_use(session, seen(heard, call))
+}
+
+fn seen(heard: Heard, call: Call) -> Reply {
     if call.code == calls::ACCEPTS {
         return accepts(heard, call);
     }

@@ -17,6 +17,26 @@ reading = 3
 abbrev pub register : ℕ
 register = 4
 
+-- writes to a register that can only be read
+abbrev pub read-only : ℕ
+read-only = 5
+
+-- writes of the type that the register does not hold
+abbrev pub value-type : ℕ
+value-type = 6
+
+-- timeouts that are not taken
+abbrev pub timeout : ℕ
+timeout = 7
+
+-- starts while a run is open
+abbrev pub run-open : ℕ
+run-open = 8
+
+-- answers that no run wants
+abbrev pub not-wanted : ℕ
+not-wanted = 9
+
 -- queries that are not taken
 abbrev pub query : ℕ
 query = 11

@@ -1,6 +1,6 @@
 // Points and spans of time, in nanoseconds: two types, so that neither can stand for the other.
 ghost use mathlib.Core.Path.{_≡_};
-ghost use Rattle.motor_core.specs.Time.{reading-accepted};
+ghost use Rattle.motor_core.specs.Time.{reading-accepted, timeout-accepted};
 
 pub struct Instant(pub u64);
 
@@ -11,4 +11,11 @@ pub fn accepts_reading(last: Instant, reading: Instant) -> bool
     ensures { λ r. ⌜ r ≡ reading-accepted last reading ⌝ }
 {
     last.0 <= reading.0 && reading.0 <= 0x4000_0000_0000_0000
+}
+
+// Whether a run may wait so long: at most 60 s.
+pub fn accepts_timeout(timeout: Duration) -> bool
+    ensures { λ r. ⌜ r ≡ timeout-accepted timeout ⌝ }
+{
+    timeout.0 <= 60_000_000_000
 }

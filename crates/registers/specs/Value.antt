@@ -1,6 +1,6 @@
 -- A register's value: a type and 32 bits, by which two values are compared. A NaN is a case of its own, with its bits. Definitions only.
 use Prim.Native.Nat.{ℕ}
-use mathlib.Core.Bool.{Bool, true, false, _&&_, Bool·beq, cond}
+use mathlib.Core.Bool.{Bool, true, false, not, _&&_, Bool·beq, cond}
 use lib.Dec.{eqb}
 use lib.Ieee.{binary32, toBits, ofBits, nanBits}
 use Rattle.registers.specs.declared.RegisterDataType.{RegisterDataType}
@@ -26,6 +26,12 @@ type-of (UInt32 n) = Typed.UInt32
 abbrev pub is-u32 : RegisterDataType → Bool
 is-u32 Typed.Float = false
 is-u32 Typed.UInt32 = true
+
+-- a value of that type
+unfoldable pub of-type : RegisterValue → RegisterDataType → Bool
+unfolding type-of
+of-type value Typed.Float = not (is-u32 (type-of value))
+of-type value Typed.UInt32 = is-u32 (type-of value)
 
 -- equal by type and bits
 unfoldable pub same-value : RegisterValue → RegisterValue → Bool

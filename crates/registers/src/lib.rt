@@ -1,7 +1,7 @@
 // The motor's registers: which are known, their type and access, and the values that they hold.
 ghost use mathlib.Core.Path.{_≡_};
 ghost use Rattle.registers.specs.Registers.{code-of, info-of, known};
-ghost use Rattle.registers.specs.Value.{value-of, bits-of, type-of, is-u32, same-value};
+ghost use Rattle.registers.specs.Value.{value-of, bits-of, type-of, is-u32, of-type, same-value};
 use float::F32Bits;
 
 pub enum RegisterAccess {
@@ -348,6 +348,16 @@ pub fn holds_u32(value: RegisterValue) -> bool
         RegisterValue::UInt32(_) => true,
         RegisterValue::Float(_) => false,
         RegisterValue::Nan(_) => false,
+    }
+}
+
+// Whether a value is of that type.
+pub fn is_of_type(value: RegisterValue, data_type: RegisterDataType) -> bool
+    ensures { λ r. ⌜ r ≡ of-type value «data_type» ⌝ }
+{
+    match data_type {
+        RegisterDataType::Float => !holds_u32(value),
+        RegisterDataType::UInt32 => holds_u32(value),
     }
 }
 

@@ -33,6 +33,10 @@ unfoldable pub special : ℕ → ℕ
 unfolding packed-onto bytes
 special last = packed (bytes 7 0xff ++ byte last ∷ [])
 
+unfoldable pub disable-data : ℕ
+unfolding special
+disable-data = special 0xfd
+
 -- ---- the frames: id and data, or a refusal
 
 -- requests go to 0x7FF
@@ -50,7 +54,7 @@ feedback-request-cmd motor = frame-for motor 0x7ff (feedback-request-data motor)
 
 -- the others go to the motor id
 abbrev pub disable-cmd : ℕ → Command
-disable-cmd motor = frame-for motor motor (special 0xfd)
+disable-cmd motor = frame-for motor motor disable-data
 
 abbrev pub set-zero-cmd : ℕ → Command
 set-zero-cmd motor = frame-for motor motor (special 0xfe)

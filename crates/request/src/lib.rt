@@ -6,7 +6,7 @@ ghost use Rattle.request.specs.Request as Spec;
 use frame::Command;
 
 // Where register and store commands and feedback requests go.
-const REGISTER_ID: u32 = 0x7ff;
+pub const REGISTER_ID: u32 = 0x7ff;
 
 const DISABLE: u64 = 0xffff_ffff_ffff_fffd;
 
@@ -47,6 +47,12 @@ pub fn encode_feedback_request_cmd(motor_id: u16) -> u64
     addressed(motor_id, 0xcc, 0x00, 0)
 }
 
+pub fn encode_disable_cmd() -> u64
+    ensures { λ r. ⌜ r ≡ Spec.disable-data ⌝ }
+{
+    DISABLE
+}
+
 pub fn register_read_cmd(motor_id: u16, rid: u8) -> Command
     ensures { λ r. ⌜ r ≡ Spec.register-read-cmd «motor_id» rid ⌝ }
 {
@@ -82,7 +88,7 @@ pub fn feedback_request_cmd(motor_id: u16) -> Command
 pub fn disable_cmd(motor_id: u16) -> Command
     ensures { λ r. ⌜ r ≡ Spec.disable-cmd «motor_id» ⌝ }
 {
-    frame::frame_for(motor_id, motor_id as u32, DISABLE)
+    frame::frame_for(motor_id, motor_id as u32, encode_disable_cmd())
 }
 
 pub fn set_zero_cmd(motor_id: u16) -> Command

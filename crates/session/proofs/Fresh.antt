@@ -4,9 +4,8 @@ use mathlib.Core.Path.{_≡_, refl}
 use lib.ListN.{length, replicate, length-replicate}
 use Rattle.motor_core.specs.declared.model.PvTLimits.{PvTLimits}
 use Rattle.feedback.specs.Feedback.{no-feedback}
-use Rattle.session.specs.Cache.{empty, slot-of}
-use Rattle.session.specs.Session.{fresh}
-use Rattle.session.specs.declared.Run.the-variants.{None}
+use Rattle.cache.specs.Cache.{empty, slot-of}
+use Rattle.session.specs.Session.{closed, fresh}
 
 all-empty : (n rid : ℕ) → slot-of (replicate n empty) rid ≡ empty
 all-empty zero rid = refl
@@ -50,6 +49,6 @@ module _ (motor-id feedback-id : ℕ) (limits : PvTLimits) where
   unfolding fresh
   fresh-last = refl
 
-  pub fresh-run : fresh motor-id feedback-id limits .run ≡ None
+  pub fresh-run : fresh motor-id feedback-id limits .run ≡ closed
   unfolding fresh
   fresh-run = refl

@@ -1,4 +1,3 @@
 pub mod BuiltIn
-pub mod Cache
 pub mod Session
 pub mod Start

@@ -1,6 +1,5 @@
 // A motor's session: what was heard of the motor, the caches of its register replies and acks, and
 // the run that is open. It goes by value.
-pub mod cache;
 pub mod start;
 
 ghost use mathlib.Core.Path.{_≡_};
@@ -9,6 +8,7 @@ ghost use Rattle.session.specs.Session as Spec;
 use cache::Slot;
 use feedback::FeedbackCache;
 use feedback::Latest;
+use machine::Machine;
 use motor_core::bus::CanFrame;
 use motor_core::model::PvTLimits;
 use motor_core::time::Instant;
@@ -22,8 +22,14 @@ pub struct Heard {
     pub last: Instant,
 }
 
-pub enum Run {
-    None,
+// Whether a run is open, and then where its machine stands.
+pub enum Phase {
+    Closed,
+    Open(Machine),
+}
+
+pub struct Run {
+    pub phase: Phase,
 }
 
 // A slot for each register number up to the last register, 81.

@@ -4,10 +4,11 @@ ghost use Rattle.models.specs.Counted.{models-of};
 ghost use Rattle.session.specs.Session.{fresh};
 ghost use Rattle.session.specs.Start as Spec;
 use crate::Heard;
+use crate::Phase;
 use crate::Run;
 use crate::Session;
-use crate::cache::Entry;
-use crate::cache::Slot;
+use cache::Entry;
+use cache::Slot;
 use feedback::FeedbackCache;
 use feedback::Latest;
 use models::list::Maxima;
@@ -53,7 +54,9 @@ fn fresh(motor_id: u16, feedback_id: u16, limits: PvTLimits) -> Session
         acks: [Slot {
             entry: Entry::Empty,
         }; 82],
-        run: Run::None,
+        run: Run {
+            phase: Phase::Closed,
+        },
     }
 }
 

@@ -10,7 +10,7 @@ use Rattle.registers.specs.declared.RegisterValue.{RegisterValue}
 use Rattle.feedback.specs.declared.FeedbackSnapshot.{FeedbackSnapshot}
 use Rattle.feedback.specs.declared.Latest.the-variants.{Snapshot}
 use Rattle.session.specs.declared.Session.{Session}
-use Rattle.session.specs.declared.cache.Entry.the-variants.{Held}
+use Rattle.cache.specs.declared.Entry.the-variants.{Held}
 use Rattle.taking.specs.Taking.{take-frame}
 use Rattle.taking.specs.declared.Taking.{Taking}
 use Rattle.session_loops.specs.Frames.{mixed, type-number, sender-total, floats-total, latest-total, entry-total, slots-total, session-total, frame-at, after}

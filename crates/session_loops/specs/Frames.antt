@@ -14,12 +14,12 @@ use Rattle.received.specs.declared.status.StatusName.the-variants.{Disabled, En
 use Rattle.feedback.specs.declared.Latest.{Latest}
 use Rattle.feedback.specs.declared.Latest.the-variants.{None, Snapshot}
 use Rattle.feedback.specs.declared.MotorFeedbackState.{MotorFeedbackState}
-use Rattle.session.specs.Cache.{slot-of}
+use Rattle.cache.specs.Cache.{slot-of}
 use Rattle.session.specs.Start.{from-limits}
 use Rattle.session.specs.declared.Session.{Session}
-use Rattle.session.specs.declared.cache.Entry.{Entry}
-use Rattle.session.specs.declared.cache.Entry.the-variants.{Empty, Held}
-use Rattle.session.specs.declared.cache.Slot.{Slot}
+use Rattle.cache.specs.declared.Entry.{Entry}
+use Rattle.cache.specs.declared.Entry.the-variants.{Empty, Held}
+use Rattle.cache.specs.declared.Slot.{Slot}
 use Rattle.taking.specs.Taking.{take-frame}
 use Rattle.bench_loops.specs.Loops.{total, _⊞_, frame}
 
@@ -90,5 +90,8 @@ abbrev pub maxima-4310 : Maxima
 maxima-4310 = record { «p_max» = div binary32 (float 25) (float 2); «v_max» = float 30; «t_max» = float 10 }
 
 -- a fresh session of motor 1
+abbrev pub session-4310 : Session
+session-4310 = from-limits 1 0x11 maxima-4310 .session
+
 abbrev pub frames-total : List ℕ → ℕ
-frames-total bytes = session-total (after-frames (from-limits 1 0x11 maxima-4310 .session) bytes)
+frames-total bytes = session-total (after-frames session-4310 bytes)

@@ -5,6 +5,8 @@ ghost use Prim.Native.Nat.{_+_, _≤_};
 ghost use lib.Ieee.{binary32, toBits};
 ghost use lib.ListN.{length};
 ghost use Rattle.session_loops.specs.Frames as Spec;
+use cache::Entry;
+use cache::Slot;
 use feedback::Latest;
 use feedback::MotorFeedbackState;
 use models::list::Maxima;
@@ -13,13 +15,11 @@ use motor_core::time::Instant;
 use received::status::StatusName;
 use registers::RegisterValue;
 use session::Session;
-use session::cache::Entry;
-use session::cache::Slot;
 use session::start::from_limits;
 use taking::process_feedback_frame;
 
 // Three times the sum, and the next number: every weight is odd, so each number counts.
-fn mixed(sum: u64, next: u64) -> u64
+pub fn mixed(sum: u64, next: u64) -> u64
     ensures { λ r. ⌜ r ≡ Spec.mixed sum next ⌝ }
 {
     let twice = std::num::wrapping_add_u64(sum, sum);
@@ -115,7 +115,7 @@ fn slots_total(slots: [Slot; 82]) -> u64
     sum
 }
 
-fn session_total(session: Session) -> u64
+pub fn session_total(session: Session) -> u64
     ensures { λ r. ⌜ r ≡ Spec.session-total session ⌝ }
 {
     let heard = session.heard;
@@ -166,10 +166,9 @@ fn after_frames(frames: &[u8], start: Session) -> Session
     session
 }
 
-// Takes every whole frame of eight bytes into a fresh session of motor 1, model 4310.
-#[no_mangle]
-pub extern "C" fn session_loops_frames(frames: &[u8]) -> u64
-    ensures { λ r. ⌜ r ≡ Spec.frames-total (now (frames .entry)) ⌝ }
+// A fresh session of motor 1, model 4310.
+pub fn session_4310() -> Session
+    ensures { λ r. ⌜ r ≡ Spec.session-4310 ⌝ }
 {
     let start = from_limits(
         1,
@@ -180,6 +179,13 @@ pub extern "C" fn session_loops_frames(frames: &[u8]) -> u64
             t_max: 10.0,
         },
     );
-    let session = start.session;
-    session_total(after_frames(frames, session))
+    start.session
+}
+
+// Takes every whole frame of eight bytes into a fresh session.
+#[no_mangle]
+pub extern "C" fn session_loops_frames(frames: &[u8]) -> u64
+    ensures { λ r. ⌜ r ≡ Spec.frames-total (now (frames .entry)) ⌝ }
+{
+    session_total(after_frames(frames, session_4310()))
 }

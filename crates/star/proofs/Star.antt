@@ -22,7 +22,7 @@ use Rattle.request.specs.Request.{register-read-data, addressed}
 use Rattle.received.specs.Received.{class, feedback-of, decoded, received, register-value}
 use Rattle.received.specs.Status.{status-name}
 use Rattle.feedback.specs.declared.Latest.the-variants.{Snapshot}
-use Rattle.session.specs.Cache.{held, slot-of}
+use Rattle.cache.specs.Cache.{held, slot-of}
 use Rattle.session.specs.Session.{fresh}
 use Rattle.taking.specs.Effects.{if-taken, of-register, slot-with, record-with}
 use Rattle.taking.specs.Taking.{frame-outcome, take-frame}

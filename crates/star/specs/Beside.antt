@@ -11,11 +11,11 @@ use Rattle.received.specs.Received.{accepted}
 use Rattle.received.specs.declared.status.StatusName.the-variants.{UnderVoltage}
 use Rattle.feedback.specs.declared.FeedbackSnapshot.{FeedbackSnapshot}
 use Rattle.feedback.specs.declared.Latest.the-variants.{Snapshot}
-use Rattle.session.specs.Cache.{cached-entry}
+use Rattle.cache.specs.Cache.{cached-entry}
 use Rattle.session.specs.Session.{patch}
 use Rattle.session.specs.declared.Session.{Session}
-use Rattle.session.specs.declared.cache.Cached.the-variants as Cached
-use Rattle.session.specs.declared.cache.Entry.the-variants.{Empty}
+use Rattle.cache.specs.declared.Cached.the-variants as Cached
+use Rattle.cache.specs.declared.Entry.the-variants.{Empty}
 use Rattle.taking.specs.Taking.{frame-outcome, take-frame}
 use Rattle.taking.specs.declared.Outcome.the-variants.{Refused}
 use Rattle.star.specs.Star.{p, v, t, frame, on-bus, session, at-minimum}

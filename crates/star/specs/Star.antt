@@ -26,7 +26,7 @@ use Rattle.received.specs.declared.feedback.SensorFeedback.{SensorFeedback}
 use Rattle.received.specs.declared.status.StatusName.the-variants.{Enabled}
 use Rattle.feedback.specs.declared.FeedbackSnapshot.{FeedbackSnapshot}
 use Rattle.feedback.specs.declared.Latest.the-variants.{Snapshot}
-use Rattle.session.specs.Cache.{held, slot-of}
+use Rattle.cache.specs.Cache.{held, slot-of}
 use Rattle.session.specs.Session.{fresh}
 use Rattle.session.specs.declared.Session.{Session}
 use Rattle.taking.specs.Taking.{take-frame}

@@ -22,9 +22,9 @@ use Rattle.received.specs.declared.feedback.Received.{Received}
 use Rattle.received.specs.declared.feedback.Received.the-variants.{Reply, Ack, Feedback}
 use Rattle.received.proofs.OfRegister.{of-register as of-d3}
 use Rattle.feedback.specs.declared.FeedbackCache.{FeedbackCache}
-use Rattle.session.specs.Cache.{empty, held, slot-of}
+use Rattle.cache.specs.Cache.{empty, held, slot-of}
 use Rattle.session.specs.declared.Session.{Session}
-use Rattle.session.specs.declared.cache.Slot.{Slot}
+use Rattle.cache.specs.declared.Slot.{Slot}
 use Rattle.taking.specs.Effects.{reported, if-taken, reply-taken, ack-taken, state-taken, of-register, slot-with, record-with, last-with}
 use Rattle.taking.specs.Taking.{frame-outcome, feedback-after, reply-of, ack-of, stored, session-after, says, take-by, take-frame}
 use Rattle.taking.specs.declared.Outcome.{Outcome}

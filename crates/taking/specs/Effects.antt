@@ -11,9 +11,9 @@ use Rattle.received.specs.declared.feedback.Received.the-variants.{Reply, Ack, 
 use Rattle.feedback.specs.Feedback.{state-of, update}
 use Rattle.feedback.specs.declared.FeedbackCache.{FeedbackCache}
 use Rattle.feedback.specs.declared.MotorFeedbackState.{MotorFeedbackState}
-use Rattle.session.specs.Cache.{held}
+use Rattle.cache.specs.Cache.{held}
 use Rattle.session.specs.declared.Heard.{Heard}
-use Rattle.session.specs.declared.cache.Slot.{Slot}
+use Rattle.cache.specs.declared.Slot.{Slot}
 use Rattle.taking.specs.Taking.{frame-outcome, reply-of, ack-of, says}
 use Rattle.taking.specs.declared.Outcome.{Outcome}
 use Rattle.taking.specs.declared.Outcome.the-variants.{Taken, Refused}

@@ -14,10 +14,11 @@ use Rattle.received.specs.declared.feedback.Received.{Received}
 use Rattle.received.specs.declared.feedback.Received.the-variants.{Reply, Ack, Feedback}
 use Rattle.feedback.specs.Feedback.{state-of, update}
 use Rattle.feedback.specs.declared.FeedbackCache.{FeedbackCache}
-use Rattle.session.specs.Cache.{held}
+use Rattle.cache.specs.Cache.{held}
+use Rattle.session.specs.Session.{with-feedback, with-last}
 use Rattle.session.specs.declared.Heard.{Heard}
 use Rattle.session.specs.declared.Session.{Session}
-use Rattle.session.specs.declared.cache.Slot.{Slot}
+use Rattle.cache.specs.declared.Slot.{Slot}
 use Rattle.taking.specs.declared.Outcome.{Outcome}
 use Rattle.taking.specs.declared.Outcome.the-variants.{Taken, Refused}
 use Rattle.taking.specs.declared.Kept.{Kept}
@@ -31,7 +32,7 @@ frame-outcome heard frame reading = cond (reading-accepted (heard .last) reading
 
 -- the reading becomes the last
 abbrev pub heard-at : Heard → FeedbackCache → Instant → Heard
-heard-at h feedback reading = record { «motor_id» = h .«motor_id»; «feedback_id» = h .«feedback_id»; limits = h .limits; feedback = feedback; last = reading }
+heard-at h feedback reading = with-last (with-feedback h feedback) reading
 
 -- 'The feedback on the screen': a feedback becomes the latest record, with the frame's arbitration id
 abbrev pub feedback-after : FeedbackCache → ℕ → Received → Instant → FeedbackCache

@@ -2,8 +2,10 @@
 // that is written; the entry on a whole session is thin around it.
 ghost use mathlib.Core.Path.{_≡_};
 ghost use Prim.Native.Nat.{_<_};
-ghost use Rattle.session.specs.Cache.{held};
+ghost use Rattle.cache.specs.Cache.{held};
 ghost use Rattle.taking.specs.Taking as Spec;
+use cache::Entry;
+use cache::Slot;
 use feedback::FeedbackCache;
 use feedback::state_of;
 use feedback::update;
@@ -16,8 +18,6 @@ use received::feedback::read_frame;
 use registers::RegisterValue;
 use session::Heard;
 use session::Session;
-use session::cache::Entry;
-use session::cache::Slot;
 
 pub enum Outcome {
     Taken,

@@ -93,6 +93,7 @@ pub fn chunk(seed: u64, lines: u64, recipe: &Recipe) -> Chunk {
         let burst = generator.burst(family);
         for _ in 0..burst.min(lines - made) {
             let line = generator.line(family);
+            let line = generator.unlent(line);
             made += 1;
             if generator.leaves_out(&line) {
                 continue;
@@ -120,6 +121,14 @@ struct Generator<'a> {
 impl Generator<'_> {
     fn family(&mut self) -> Family {
         self.rng.pick(&self.recipe.families)
+    }
+
+    /// Where the recipe does without the entry that lends the session, its frames go by value.
+    fn unlent(&self, line: Vec<u8>) -> Vec<u8> {
+        match line.strip_prefix(b"frame-lent ") {
+            Some(rest) if self.leaves_out(&line) => [b"frame ", rest].concat(),
+            _ => line,
+        }
     }
 
     /// Whether a line is a call that the recipe does without. A bad line with the call's word is none.

@@ -11,6 +11,12 @@ use script::Want;
 const MS: u64 = 1_000_000;
 const LAST_READING: u64 = 1 << 62;
 
+/// Registers of either type, and those among them that may be written.
+const U32: &[u8] = &[7, 8, 9, 10, 13, 14, 15, 16, 35, 36];
+const F32: &[u8] = &[0, 1, 6, 11, 12, 21, 25, 34, 50, 56, 59, 65, 80, 81];
+const U32_WRITABLE: &[u8] = &[7, 8, 9, 10, 35];
+const F32_WRITABLE: &[u8] = &[0, 1, 6, 21, 22, 25, 34];
+
 #[derive(Debug, Clone, Copy, PartialEq, Eq)]
 enum Clock {
     Stands,
@@ -66,9 +72,9 @@ impl Temper {
             noise: rng.pick(&[0, 0, 3, 15, 40]),
             blunders: rng.pick(&[0, 0, 2, 10]),
             patience: match rng.below(32) {
-                0 => 2000,
-                1..=3 => 300,
-                _ => rng.pick(&[0, 6, 12, 25, 50]),
+                0 => 400,
+                1..=3 => 120,
+                _ => rng.pick(&[0, 3, 6, 12, 25, 50]),
             },
         }
     }
@@ -87,7 +93,16 @@ pub struct Runs {
     temper: Temper,
     /// The mode wanted, in a switch.
     mode: Option<u32>,
+    /// The register that is read or written.
+    rid: Option<u8>,
+    /// The bits to be written.
+    bits: Option<u32>,
     timeout: u64,
+    /// The opening of the newest wait, and how long it lasts.
+    opening: u64,
+    wait: u64,
+    /// The next reading is an opening.
+    opens: bool,
     /// The first reading of the run and its newest three.
     readings: [u64; 4],
     /// Slept since the last reading.
@@ -107,7 +122,12 @@ impl Runs {
         Runs {
             temper: Temper::draw(rng),
             mode: None,
+            rid: None,
+            bits: None,
             timeout: 0,
+            opening: 0,
+            wait: 0,
+            opens: true,
             readings: [0; 4],
             slept: 0,
             send_seen: false,
@@ -120,45 +140,39 @@ impl Runs {
     /// The start of a register read, a confirmed write, a fresh-state request or storing.
     pub fn start(&mut self, rng: &mut Rng) -> Vec<u8> {
         *self = Runs::new(rng);
-        let rid = values::rid(rng);
         match rng.below(16) {
-            0..=4 => {
+            0..=5 => {
+                let (word, of_type) = rng.pick(&[("get-u32", U32), ("get-f32", F32)]);
+                let rid = register(rng, of_type);
+                self.rid = Some(rid);
                 self.timeout = timeout(rng);
-                let word = rng.pick(&["get-u32", "get-f32"]);
                 Text::new(word)
                     .number(rng, rid)
                     .number(rng, self.timeout)
                     .bytes
             }
-            5..=7 => {
-                let rid = if rng.chance(85) {
-                    rng.pick(&[7, 8, 9, 10, 35])
+            6..=10 => {
+                let (word, writable) =
+                    rng.pick(&[("write-u32", U32_WRITABLE), ("write-f32", F32_WRITABLE)]);
+                let rid = register(rng, writable);
+                let bits = values::any_float(rng);
+                self.rid = Some(rid);
+                self.bits = Some(bits);
+                let text = Text::new(word).number(rng, rid);
+                if word == "write-u32" {
+                    text.number(rng, bits).bytes
                 } else {
-                    rid
-                };
-                let value = values::any_float(rng);
-                Text::new("write-u32")
-                    .number(rng, rid)
-                    .number(rng, value)
-                    .bytes
-            }
-            8..=10 => {
-                let rid = if rng.chance(85) {
-                    rng.pick(&[0, 1, 6, 21, 22, 25, 34])
-                } else {
-                    rid
-                };
-                let value = values::any_float(rng);
-                Text::new("write-f32")
-                    .number(rng, rid)
-                    .float(rng, value)
-                    .bytes
+                    text.float(rng, bits).bytes
+                }
             }
             11..=13 => {
                 self.timeout = timeout(rng);
                 Text::new("fresh-state").number(rng, self.timeout).bytes
             }
-            _ => b"store".to_vec(),
+            _ => {
+                self.timeout = 50 * MS;
+                b"store".to_vec()
+            }
         }
     }
 
@@ -190,6 +204,9 @@ impl Runs {
         if rng.chance(self.temper.noise) {
             return self.noise(rng, session);
         }
+        if self.opens && rng.chance(12) {
+            return self.unasked(rng, session); // to be stamped with the opening, or below it
+        }
         if let Some(frame) = self.due(rng, session, want) {
             return frame;
         }
@@ -197,6 +214,10 @@ impl Runs {
             Want::Clock => {
                 let reading = self.reading(rng, session.last());
                 self.slept = 0;
+                if self.opens {
+                    self.opens = false;
+                    self.opening = reading;
+                }
                 if self.readings == [0; 4] {
                     self.readings = [reading; 4];
                 } else {
@@ -205,7 +226,7 @@ impl Runs {
                 }
                 Text::new("clock").number(rng, reading).bytes
             }
-            Want::Send { .. } => {
+            Want::Send { id, data } => {
                 self.send_seen = false;
                 self.lines = 0;
                 if rng.chance(self.temper.send_fails) {
@@ -213,6 +234,8 @@ impl Runs {
                     rng.pick(&[b"send-timeout".as_slice(), b"send-failed"])
                         .to_vec()
                 } else {
+                    // The wait for an ack opens with the reading after the send.
+                    self.opens = matches!(request(id, data), Some(Asked::Ack { .. }));
                     b"sent".to_vec()
                 }
             }
@@ -223,11 +246,31 @@ impl Runs {
         }
     }
 
+    /// How long what is asked is waited for.
+    fn wait_of(&self, asked: Option<Asked>) -> u64 {
+        match asked {
+            Some(Asked::Ack { .. }) => 50 * MS,
+            Some(Asked::Reply { rid: 10 }) if self.mode.is_some() => self.mode_cap(),
+            Some(Asked::Reply { .. }) if self.mode.is_some() => self.hold_cap(),
+            _ => self.timeout,
+        }
+    }
+
+    fn mode_cap(&self) -> u64 {
+        (self.timeout / 4).clamp(2 * MS, 100 * MS)
+    }
+
+    fn hold_cap(&self) -> u64 {
+        (self.timeout / 6).clamp(2 * MS, 30 * MS)
+    }
+
     /// A frame that is due now, with what the motor has to say.
     fn due(&mut self, rng: &mut Rng, session: &Session, want: Want) -> Option<Vec<u8>> {
         if let Want::Send { id, data } = want {
             if !self.send_seen {
                 self.send_seen = true;
+                self.opening = self.readings[3];
+                self.wait = self.wait_of(request(id, data));
                 self.written |= matches!(request(id, data), Some(Asked::Ack { .. }));
                 self.asked = request(id, data)
                     .filter(|_| rng.chance(self.temper.replies))
@@ -266,18 +309,9 @@ impl Runs {
                 let marker = if rng.chance(4) { 0x33 } else { 0x55 };
                 values::register_data(rng, d0, marker, rid, bits)
             }
-            Asked::State => {
-                let mut data = rng.next().to_be_bytes();
-                let status = if right { 0 } else { rng.below(16) as u8 };
-                data[0] = d0 & 0x0F | status << 4;
-                data
-            }
+            Asked::State => state_data(rng, session),
         };
-        let reading = match rng.below(8) {
-            0 => session.last() + rng.below(2 * MS),
-            1 => session.last() + 1,
-            _ => session.last(),
-        };
+        let reading = stamp(rng, session);
         Some(sessions::frame_with(rng, session, reading, data))
     }
 
@@ -304,11 +338,22 @@ impl Runs {
             self.temper.clock
         };
         let on = |by: u64| last.saturating_add(by);
+        if rng.below(500) == 0 {
+            // at the end of the clock, or so near that the wait's deadline is beyond it
+            let short = rng.pick(&[0, 1, MS, self.timeout.min(61_000 * MS)]);
+            return (LAST_READING - rng.below(short + 1)).max(last);
+        }
+        if self.opens && rng.chance(50) {
+            // what was taken last has the opening's stamp, or is one below it
+            return on(rng.below(2)).min(LAST_READING);
+        }
         if leap && rng.chance(40) {
-            let wait = match rng.below(4) {
+            let wait = match rng.below(8) {
                 0 => self.timeout.min(61_000 * MS),
                 1 => self.timeout.min(100 * MS),
-                _ => 50 * MS,
+                2 => 1 << rng.below(50),
+                3 | 4 => 50 * MS,
+                _ => self.wait.min(61_000 * MS),
             };
             return on(wait + rng.below(2 * MS)).min(LAST_READING);
         }
@@ -336,19 +381,18 @@ impl Runs {
 
     /// A reading at a deadline, or one nanosecond off, as far as it is not past.
     fn edge(&self, rng: &mut Rng, last: u64) -> u64 {
-        let mode_cap = (self.timeout / 4).clamp(2 * MS, 100 * MS);
-        let hold_cap = (self.timeout / 6).clamp(2 * MS, 30 * MS);
         let from_start = self.readings[0].saturating_add(self.timeout);
         let newest = self.readings[1 + rng.below(3) as usize];
-        let edge = match rng.below(8) {
+        let edge = match rng.below(12) {
             0 => from_start,
-            1 => from_start.saturating_sub(mode_cap),
-            2 => from_start.saturating_sub(mode_cap + 20 * MS),
-            3 => newest.saturating_add(mode_cap),
-            4 => newest.saturating_add(hold_cap),
+            1 if self.mode.is_some() => from_start.saturating_sub(self.mode_cap()),
+            2 if self.mode.is_some() => from_start.saturating_sub(self.mode_cap() + 20 * MS),
+            3 if self.mode.is_some() => newest.saturating_add(self.mode_cap()),
+            4 if self.mode.is_some() => newest.saturating_add(self.hold_cap()),
             5 => newest.saturating_add(50 * MS),
             6 => newest.saturating_add(self.timeout),
-            _ => last + self.slept,
+            7 | 8 => last + self.slept,
+            _ => self.opening.saturating_add(self.wait),
         };
         edge.saturating_add_signed(rng.around(1)).max(last)
     }
@@ -357,24 +401,34 @@ impl Runs {
     fn noise(&mut self, rng: &mut Rng, session: &Session) -> Vec<u8> {
         match rng.below(16) {
             0 => b"session".to_vec(),
-            1 | 2 => sessions::patch(rng),
-            3..=6 => sessions::frame(rng, session),
-            _ => {
-                // A register frame for the registers that runs look at, or feedback, stamped now.
-                let rid = if rng.chance(70) {
-                    rng.pick(&[10, 10, 80])
-                } else {
-                    values::known_rid(rng)
-                };
-                let right = rng.chance(50);
-                let bits = self.reply_bits(rng, session, rid, right);
-                let marker = rng.pick(&[0x33, 0x33, 0x55, 0x00]);
-                let d0 = session.motor_id() as u8;
-                let data = values::register_data(rng, d0, marker, rid, bits);
-                let last = session.last();
-                sessions::frame_with(rng, session, last, data)
+            1 => sessions::patch(rng),
+            2 => b"patch 0 30 31".to_vec(),
+            3..=5 => sessions::frame(rng, session),
+            6 | 7 => {
+                let data = state_data(rng, session);
+                let reading = stamp(rng, session);
+                sessions::frame_with(rng, session, reading, data)
             }
+            _ => self.unasked(rng, session),
         }
+    }
+
+    /// A reply, an ack or nearly one, mostly of a register that the run looks at.
+    fn unasked(&self, rng: &mut Rng, session: &Session) -> Vec<u8> {
+        let rid = match self.rid {
+            Some(rid) if rng.chance(60) => rid,
+            _ if rng.chance(70) => rng.pick(&[10, 10, 80]),
+            _ => values::known_rid(rng),
+        };
+        let right = rng.chance(50);
+        let bits = match self.bits {
+            Some(bits) if right => bits,
+            _ => self.reply_bits(rng, session, rid, right),
+        };
+        let marker = rng.pick(&[0x33, 0x33, 0x55, 0x55, 0x00]);
+        let data = values::register_data(rng, session.motor_id() as u8, marker, rid, bits);
+        let reading = stamp(rng, session);
+        sessions::frame_with(rng, session, reading, data)
     }
 
     /// A call that is refused while this run is open, or may be; now and then a fresh session.
@@ -427,6 +481,36 @@ fn request(id: u32, data: [u8; 8]) -> Option<Asked> {
         }),
         (0x7FF, 0xCC) => Some(Asked::State),
         _ => None,
+    }
+}
+
+/// A state of this motor, with status 0 as often as not.
+fn state_data(rng: &mut Rng, session: &Session) -> [u8; 8] {
+    let mut data = rng.next().to_be_bytes();
+    let status = if rng.chance(50) {
+        0
+    } else {
+        rng.below(16) as u8
+    };
+    data[0] = session.motor_id() as u8 & 0x0F | status << 4;
+    data
+}
+
+/// A reading for a frame that the session takes, mostly its last.
+fn stamp(rng: &mut Rng, session: &Session) -> u64 {
+    match rng.below(8) {
+        0 => session.last() + rng.below(2 * MS),
+        1 => session.last() + 1,
+        _ => session.last(),
+    }
+}
+
+/// A register of this list, or any, or none.
+fn register(rng: &mut Rng, list: &[u8]) -> u8 {
+    if rng.chance(75) {
+        rng.pick(list)
+    } else {
+        values::rid(rng)
     }
 }
 

@@ -1,15 +1,18 @@
 -- `request::disable_cmd` meets its contract. Assumes nothing.
-use Rattle.request.specs.Request.{special}
+use mathlib.Core.Path.{ap, _∙_}
+use Rattle.frame.specs.Command.{frame-for}
 use borrow.Author.Needs.{needs}
 use Rattle.request.proofs.disable_cmd.Statement.{statement}
 use Rattle.request.proofs.disable_cmd.Tie as tie
+
+encode-disable-cmd-requires : tie.Need-encode-disable-cmd-requires
+encode-disable-cmd-requires c κs = search needs
 
 frame-for-requires : tie.Need-frame-for-requires
 frame-for-requires c κs = search needs
 
 returns : tie.Need-returns
-unfolding special
-returns c = c .frame-for .ensures
+returns c = c .frame-for .ensures ∙ ap (frame-for _ _) (c .before .encode-disable-cmd .ensures)
 
 pub disable-cmd-spec : {M : Type 1} → statement M
-disable-cmd-spec = tie.close (tie.spec frame-for-requires returns)
+disable-cmd-spec = tie.close (tie.spec encode-disable-cmd-requires frame-for-requires returns)

@@ -2,7 +2,7 @@
 use Prim.Native.Nat.{_-_, _≤_}
 use mathlib.Core.Path.{_≡_, refl, _∙_}
 use borrow.Author.Needs.{needs}
-use Rattle.session.specs.Cache.{slot-of}
+use Rattle.cache.specs.Cache.{slot-of}
 use Rattle.bench_loops.specs.Loops.{total}
 use Rattle.bench_loops.proofs.Totals.{one-more, reached}
 use Rattle.session_loops.specs.Frames.{mixed, entry-total}

@@ -1,0 +1,32 @@
+// What the motor last said of a register, in a reply or in an ack.
+ghost use mathlib.Core.Path.{_≡_};
+ghost use Rattle.cache.specs.Cache as Spec;
+use motor_core::error::REGISTER;
+use motor_core::time::Instant;
+use registers::RegisterValue;
+
+pub enum Entry {
+    Empty,
+    Held(RegisterValue, Instant),
+}
+
+pub struct Slot {
+    pub entry: Entry,
+}
+
+pub enum Cached {
+    Entry(Entry),
+    Refused(u8),
+}
+
+// A register's entry among a session's replies, or among its acks.
+pub fn cached_entry(slots: [Slot; 82], rid: u8) -> Cached
+    ensures { λ r. ⌜ r ≡ Spec.cached-entry slots rid ⌝ }
+{
+    if !registers::is_known(rid) {
+        return Cached::Refused(REGISTER);
+    }
+    let slot = slots[rid as usize];
+    let entry = slot.entry;
+    Cached::Entry(entry)
+}

@@ -1,0 +1,63 @@
+// What a run is told: its next want, or its result.
+use crate::print::put_numbered;
+use crate::print::put_refused;
+use crate::values::put_feedback_state;
+use crate::values::put_value;
+use feedback::MotorFeedbackState;
+use machine::RunResult;
+use motor_core::time::Duration;
+use registers::RegisterValue;
+use runs::Told;
+use text::put;
+use text::put_hex;
+use want::Failure;
+
+pub(crate) fn put_told(told: Told, output: &mut [u8], to: usize) -> usize {
+    match told {
+        Told::WantClock => put(output, to, b"want clock"),
+        Told::WantSend(id, data) => put_send(id, data, output, to),
+        Told::WantSleep(length) => put_sleep(length, output, to),
+        Told::Result(result) => put_result(result, output, to),
+        Told::Refused(number) => put_refused(number, output, to),
+    }
+}
+
+fn put_send(id: u32, data: u64, output: &mut [u8], to: usize) -> usize {
+    let at = put_numbered(output, to, b"want send ", id as u64);
+    let at = put(output, at, b" ");
+    put_hex(output, at, data, 16)
+}
+
+fn put_sleep(length: Duration, output: &mut [u8], to: usize) -> usize {
+    put_numbered(output, to, b"want sleep ", length.0)
+}
+
+fn put_result(result: RunResult, output: &mut [u8], to: usize) -> usize {
+    match result {
+        RunResult::Done => put(output, to, b"done"),
+        RunResult::Value(value) => put_worded(b"done", value, output, to),
+        RunResult::State(state) => put_state(state, output, to),
+        RunResult::NoState => put(output, to, b"no-state"),
+        RunResult::Failed(failure) => put_failure(failure, output, to),
+    }
+}
+
+fn put_failure(failure: Failure, output: &mut [u8], to: usize) -> usize {
+    match failure {
+        Failure::Timeout => put(output, to, b"timeout"),
+        Failure::Mismatch(value) => put_worded(b"mismatch", value, output, to),
+        Failure::WrongType => put(output, to, b"wrong-type"),
+        Failure::SendFailed => put(output, to, b"send-failed"),
+    }
+}
+
+// The word and the value.
+fn put_worded(word: &[u8], value: RegisterValue, output: &mut [u8], to: usize) -> usize {
+    let at = put(output, to, word);
+    put_value(value, output, at)
+}
+
+fn put_state(state: MotorFeedbackState, output: &mut [u8], to: usize) -> usize {
+    let at = put(output, to, b"done state");
+    put_feedback_state(state, output, at)
+}

@@ -1,0 +1,56 @@
+-- Storing: document 01's 'The runs', its last rule. Definitions only.
+use mathlib.Core.Bool.{cond}
+use lib.Dec.{eqb}
+use Rattle.motor_core.specs.Time.{millis}
+use Rattle.motor_core.specs.declared.time.Duration.{Duration}
+use Rattle.feedback.specs.declared.Latest.{Latest}
+use Rattle.feedback.specs.declared.MotorFeedbackState.{MotorFeedbackState}
+use Rattle.want.specs.Want.{sending-of}
+use Rattle.want.specs.declared.Answer.{Answer}
+use Rattle.want.specs.declared.Sending.{Sending}
+use Rattle.want.specs.declared.Sending.the-variants as Went
+use Rattle.want.specs.declared.Want.{Want}
+use Rattle.want.specs.declared.Want.the-variants.{Send, Sleep}
+use Rattle.want.specs.declared.message.Message.the-variants.{Disable, StoreParams}
+use Rattle.fresh_state.specs.State.{state-want, state-step}
+use Rattle.fresh_state.specs.declared.StateNext.{StateNext}
+use Rattle.fresh_state.specs.declared.StateNext.the-variants as State
+use Rattle.fresh_state.specs.declared.store.Store.{Store}
+use Rattle.fresh_state.specs.declared.store.Store.the-variants.{Asking, Disabling, Disabled, Storing, Stored}
+use Rattle.fresh_state.specs.declared.store.StoreNext.{StoreNext}
+use Rattle.fresh_state.specs.declared.store.StoreNext.the-variants.{Goes, Done, Failed}
+
+abbrev pub state-timeout : Duration
+state-timeout = millis 50
+
+-- a disable settles for 20 ms, storing for 30
+abbrev pub store-want : Store → Want
+store-want (Asking ask) = state-want ask
+store-want Disabling = Send Disable
+store-want Disabled = Sleep (millis 20)
+store-want Storing = Send StoreParams
+store-want Stored = Sleep (millis 30)
+
+-- a motor that says status 0 needs no disable
+abbrev pub by-status : MotorFeedbackState → Store
+by-status state = cond (eqb (state .«status_code») 0) Storing Disabling
+
+-- no state, or a request that failed, is followed by a disable
+abbrev pub store-asked : StateNext → Store
+store-asked (State.Goes ask) = Asking ask
+store-asked (State.Got state) = by-status state
+store-asked State.NoState = Disabling
+store-asked (State.Failed failure) = Disabling
+
+-- a disable or a store frame that is not sent ends it
+abbrev pub store-sent : Store → Sending → StoreNext
+store-sent after Went.Sent = Goes after
+store-sent after (Went.Failed failure) = Failed failure
+
+-- `store_parameters`, looking at the latest record
+abbrev pub store-step : Latest → Store → Answer → StoreNext
+store-step latest (Asking ask) answer = Goes (store-asked (state-step state-timeout latest ask answer))
+store-step latest Disabling answer = store-sent Disabled (sending-of answer)
+store-step latest Disabled answer = Goes Storing
+store-step latest Storing answer = store-sent Stored (sending-of answer)
+store-step latest Stored answer = Done

@@ -1,0 +1,43 @@
+-- `machine::machine_place` meets its contract. Assumes nothing.
+use mathlib.Core.Path.{sym, ap}
+use Rattle.machine.specs.Machine.{machine-place}
+use borrow.Author.Needs.{needs}
+use Rattle.machine.proofs.machine_place.Statement.{statement}
+use Rattle.machine.proofs.machine_place.Tie as tie
+
+enum-known-machine : tie.Need-enum-known-machine
+enum-known-machine c = search needs
+
+enum-known-machine-2 : tie.Need-enum-known-machine-2
+enum-known-machine-2 c = search needs
+
+enum-told : tie.Need-enum-told
+enum-told c = search needs
+
+enum-told-2 : tie.Need-enum-told-2
+enum-told-2 c = search needs
+
+returns : tie.Need-returns
+returns c = sym (ap machine-place (c .before .machine .given .1))
+
+returns-2 : tie.Need-returns-2
+returns-2 c = sym (ap machine-place (c .before .machine2 .given .1))
+
+returns-3 : tie.Need-returns-3
+returns-3 c = search needs
+
+returns-4 : tie.Need-returns-4
+returns-4 c = search needs
+
+pub machine-place-spec : {M : Type 1} → statement M
+machine-place-spec =
+    tie.close
+    (tie.spec
+    enum-known-machine
+    enum-known-machine-2
+    enum-told
+    enum-told-2
+    returns
+    returns-2
+    returns-3
+    returns-4)

@@ -1,0 +1,281 @@
+-- Each answer takes from what a phase may still want at least the want that it answers; so does a whole run. Once for every way of weighing. Assumes nothing.
+use Prim.Native.Nat.{ℕ, zero, suc, _+_, _≤_}
+use mathlib.Core.Path.{_≡_, refl}
+use mathlib.Core.Bool.{Bool, true, false, cond}
+use mathlib.Core.List.{List, [], _∷_}
+use native.Mathlib.Omega.{arith}
+use lib.Dec.{eqb}
+use Rattle.motor_core.specs.declared.time.Instant.{Instant}
+use Rattle.motor_core.specs.declared.time.Duration.{Duration}
+use Rattle.registers.specs.Value.{same-value, of-type}
+use Rattle.registers.specs.declared.RegisterDataType.{RegisterDataType}
+use Rattle.registers.specs.declared.RegisterValue.{RegisterValue}
+use Rattle.feedback.specs.declared.Latest.{Latest}
+use Rattle.feedback.specs.declared.Latest.the-variants as Latest
+use Rattle.feedback.specs.declared.MotorFeedbackState.{MotorFeedbackState}
+use Rattle.cache.specs.declared.Entry.{Entry}
+use Rattle.cache.specs.declared.Entry.the-variants.{Empty, Held}
+use Rattle.want.specs.Want.{reading-of, sending-of}
+use Rattle.want.specs.declared.Answer.{Answer}
+use Rattle.want.specs.declared.Failure.{Failure}
+use Rattle.want.specs.declared.Failure.the-variants.{Mismatch, WrongType}
+use Rattle.want.specs.declared.Sending.{Sending}
+use Rattle.want.specs.declared.Sending.the-variants as Went
+use Rattle.want.specs.declared.message.Message.{Message}
+use Rattle.want.specs.declared.message.Message.the-variants.{ReadRegister, RequestFeedback}
+use Rattle.wait.specs.Ask.{ask-want, ask-sent, ask-waited, ask-step}
+use Rattle.wait.specs.Look.{fresh-entry, fresh-record}
+use Rattle.wait.specs.Wait.{late, wait-want, wait-step}
+use Rattle.wait.specs.declared.Wait.{Wait}
+use Rattle.wait.specs.declared.Wait.the-variants.{Checking, Napping}
+use Rattle.wait.specs.declared.Waited.{Waited}
+use Rattle.wait.specs.declared.Waited.the-variants as Waited
+use Rattle.wait.specs.declared.ask.Ask.{Ask}
+use Rattle.wait.specs.declared.ask.Ask.the-variants as Ask
+use Rattle.wait.specs.declared.ask.Asked.{Asked}
+use Rattle.wait.specs.declared.ask.Asked.the-variants as Asked
+use Rattle.register_read.specs.Read.{found, read-by, get-by, get-step}
+use Rattle.register_read.specs.declared.ReadNext.{ReadNext}
+use Rattle.register_read.specs.declared.ReadNext.the-variants as Read
+use Rattle.confirmed_write.specs.Ack.{ack-timeout, ack-want, compared, ack-waited, ack-step}
+use Rattle.confirmed_write.specs.Ack as AckSpec
+use Rattle.confirmed_write.specs.Write.{write-want, write-sent, again, write-waited, write-step}
+use Rattle.confirmed_write.specs.declared.ack.AckWait.{AckWait}
+use Rattle.confirmed_write.specs.declared.ack.AckWait.the-variants as AckWait
+use Rattle.confirmed_write.specs.declared.ack.AckNext.{AckNext}
+use Rattle.confirmed_write.specs.declared.ack.AckNext.the-variants as Ack
+use Rattle.confirmed_write.specs.declared.Write.{Write}
+use Rattle.confirmed_write.specs.declared.Write.the-variants as Write
+use Rattle.confirmed_write.specs.declared.WriteNext.{WriteNext}
+use Rattle.confirmed_write.specs.declared.WriteNext.the-variants as Written
+use Rattle.fresh_state.specs.State.{state-by, state-step}
+use Rattle.fresh_state.specs.State as StateSpec
+use Rattle.fresh_state.specs.Store.{state-timeout, store-want, by-status, store-asked, store-sent, store-step}
+use Rattle.fresh_state.specs.declared.StateNext.{StateNext}
+use Rattle.fresh_state.specs.declared.StateNext.the-variants as State
+use Rattle.fresh_state.specs.declared.store.Store.{Store}
+use Rattle.fresh_state.specs.declared.store.Store.the-variants as Store
+use Rattle.fresh_state.specs.declared.store.StoreNext.{StoreNext}
+use Rattle.fresh_state.specs.declared.store.StoreNext.the-variants as Stored
+use Rattle.machine.specs.Machine.{machine-want, after-read, after-write, after-state, after-store, machine-step}
+use Rattle.machine.specs.declared.Machine.{Machine}
+use Rattle.machine.specs.declared.Machine.the-variants.{GetRegister, WriteRegister, RequestFreshState, StoreParameters}
+use Rattle.machine.specs.declared.Next.{Next}
+use Rattle.machine.specs.declared.Next.the-variants.{Goes, Ends}
+use Rattle.run_laws.specs.Budget.{Budget, weigh, known-after, fine, ask-left, asked-left, read-left, state-left, disabling, store-left, stored-left, ack-left, acked-left, more-tries, write-left, written-left, machine-left, left, All-fine}
+use Rattle.run_laws.specs.Trace.{Turn, wants-from, total}
+
+module _ (β : Budget) where
+  -- ---- the wait, by what comes of an answer
+
+  abbrev waited-left : Duration → β .Known → Waited → ℕ
+  waited-left l k (Waited.Goes w) = β .wait-left l k w
+  waited-left l k (Waited.Looks o) = β .wait-left l k (Checking o)
+  waited-left l k Waited.Late = 0
+
+  pub wait-falls : (l : Duration) (k : β .Known) (w : Wait) (a : Answer) → fine β (wait-want w) a k → weigh β (wait-want w) + waited-left l (known-after β (wait-want w) a k) (wait-step l w a) ≤ β .wait-left l k w
+  wait-falls l k (Checking o) a f = go (late o l (reading-of a)) refl
+    where
+      go : (b : Bool) → late o l (reading-of a) ≡ b → β .clock + waited-left l (β .hear (reading-of a)) (cond b Waited.Late (Waited.Goes (Napping o))) ≤ β .wait-left l k (Checking o)
+      go true e = omega (arith, β .at-deadline l k o)
+      go false e = β .before-deadline l k o (reading-of a) f e
+  wait-falls l k (Napping o) a f = β .after-sleep l k o
+
+  wait-covers : (l : Duration) (k : β .Known) (w : Wait) → weigh β (wait-want w) ≤ β .wait-left l k w
+  wait-covers l k (Checking o) = β .at-deadline l k o
+  wait-covers l k (Napping o) = omega (arith, β .after-sleep l k o)
+
+  -- ---- asking
+
+  asked-waited : (m : Message) (l : Duration) (k : β .Known) (x : Waited) → asked-left β m l k (ask-waited x) ≡ waited-left l k x
+  asked-waited m l k (Waited.Goes w) = refl
+  asked-waited m l k (Waited.Looks o) = refl
+  asked-waited m l k Waited.Late = refl
+
+  pub ask-falls : (m : Message) (l : Duration) (k : β .Known) (q : Ask) (a : Answer) → fine β (ask-want m q) a k → weigh β (ask-want m q) + asked-left β m l (known-after β (ask-want m q) a k) (ask-step l q a) ≤ ask-left β m l k q
+  ask-falls m l k Ask.Opening a f = omega (arith, β .opens l (reading-of a))
+  ask-falls m l k (Ask.Sending o) a f = go (sending-of a)
+    where
+      go : (x : Sending) → β .send m + asked-left β m l k (ask-sent o x) ≤ β .send m + β .wait-left l k (Checking o)
+      go Went.Sent = omega arith
+      go (Went.Failed failure) = omega arith
+  ask-falls m l k (Ask.Waiting w) a f = omega (arith, wait-falls l k w a f, asked-waited m l (known-after β (wait-want w) a k) (wait-step l w a))
+
+  ask-covers : (m : Message) (l : Duration) (k : β .Known) (q : Ask) → weigh β (ask-want m q) ≤ ask-left β m l k q
+  ask-covers m l k Ask.Opening = omega arith
+  ask-covers m l k (Ask.Sending o) = omega arith
+  ask-covers m l k (Ask.Waiting w) = wait-covers l k w
+
+  -- ---- the register read
+
+  read-found : (rid : ℕ) (l : Duration) (k : β .Known) (o : Instant) (e : Entry) → read-left β rid l k (found o e) ≤ β .wait-left l k (Checking o)
+  read-found rid l k o Empty = omega arith
+  read-found rid l k o (Held value stamp) = omega arith
+
+  read-by-left : (rid : ℕ) (l : Duration) (k : β .Known) (e : Entry) (x : Asked) → read-left β rid l k (read-by e x) ≤ asked-left β (ReadRegister rid) l k x
+  read-by-left rid l k e (Asked.Goes q) = omega arith
+  read-by-left rid l k e (Asked.Looks o) = read-found rid l k o (fresh-entry o e)
+  read-by-left rid l k e Asked.Late = omega arith
+  read-by-left rid l k e (Asked.Failed failure) = omega arith
+
+  get-by-left : (t : RegisterDataType) (rid : ℕ) (l : Duration) (k : β .Known) (x : ReadNext) → read-left β rid l k (get-by t x) ≤ read-left β rid l k x
+  get-by-left t rid l k (Read.Goes q) = omega arith
+  get-by-left t rid l k (Read.Got value) = go (of-type value t)
+    where
+      go : (b : Bool) → read-left β rid l k (cond b (Read.Got value) (Read.Failed WrongType)) ≤ 0
+      go true = omega arith
+      go false = omega arith
+  get-by-left t rid l k (Read.Failed failure) = omega arith
+
+  pub get-falls : (t : RegisterDataType) (rid : ℕ) (l : Duration) (k : β .Known) (e : Entry) (q : Ask) (a : Answer) → fine β (ask-want (ReadRegister rid) q) a k → weigh β (ask-want (ReadRegister rid) q) + read-left β rid l (known-after β (ask-want (ReadRegister rid) q) a k) (get-step t l e q a) ≤ ask-left β (ReadRegister rid) l k q
+  get-falls t rid l k e q a f =
+      let k′ = known-after β (ask-want (ReadRegister rid) q) a k in
+      omega (arith, ask-falls (ReadRegister rid) l k q a f, read-by-left rid l k′ e (ask-step l q a), get-by-left t rid l k′ (read-by e (ask-step l q a)))
+
+  -- ---- the fresh-state request
+
+  state-found : (l : Duration) (k : β .Known) (o : Instant) (x : Latest) → state-left β l k (StateSpec.found o x) ≤ β .wait-left l k (Checking o)
+  state-found l k o Latest.None = omega arith
+  state-found l k o (Latest.Snapshot s) = omega arith
+
+  state-by-left : (l : Duration) (k : β .Known) (latest : Latest) (x : Asked) → state-left β l k (state-by latest x) ≤ asked-left β RequestFeedback l k x
+  state-by-left l k latest (Asked.Goes q) = omega arith
+  state-by-left l k latest (Asked.Looks o) = state-found l k o (fresh-record o latest)
+  state-by-left l k latest Asked.Late = omega arith
+  state-by-left l k latest (Asked.Failed failure) = omega arith
+
+  pub state-falls : (l : Duration) (k : β .Known) (latest : Latest) (q : Ask) (a : Answer) → fine β (ask-want RequestFeedback q) a k → weigh β (ask-want RequestFeedback q) + state-left β l (known-after β (ask-want RequestFeedback q) a k) (state-step l latest q a) ≤ ask-left β RequestFeedback l k q
+  state-falls l k latest q a f =
+      omega (arith, ask-falls RequestFeedback l k q a f, state-by-left l (known-after β (ask-want RequestFeedback q) a k) latest (ask-step l q a))
+
+  -- ---- storing
+
+  status-left : (k : β .Known) (s : MotorFeedbackState) → store-left β k (by-status s) ≤ disabling β
+  status-left k s = go (eqb (s .«status_code») 0)
+    where
+      go : (b : Bool) → store-left β k (cond b Store.Storing Store.Disabling) ≤ disabling β
+      go true = omega arith
+      go false = omega arith
+
+  store-asked-left : (k : β .Known) (x : StateNext) → store-left β k (store-asked x) ≤ state-left β state-timeout k x + disabling β
+  store-asked-left k (State.Goes q) = omega arith
+  store-asked-left k (State.Got s) = omega (arith, status-left k s)
+  store-asked-left k State.NoState = omega arith
+  store-asked-left k (State.Failed failure) = omega arith
+
+  store-sent-left : (k : β .Known) (after : Store) (x : Sending) → stored-left β k (store-sent after x) ≤ store-left β k after
+  store-sent-left k after Went.Sent = omega arith
+  store-sent-left k after (Went.Failed failure) = omega arith
+
+  pub store-falls : (k : β .Known) (latest : Latest) (s : Store) (a : Answer) → fine β (store-want s) a k → weigh β (store-want s) + stored-left β (known-after β (store-want s) a k) (store-step latest s a) ≤ store-left β k s
+  store-falls k latest (Store.Asking q) a f =
+      let k′ = known-after β (ask-want RequestFeedback q) a k in
+      omega (arith, state-falls state-timeout k latest q a f, store-asked-left k′ (state-step state-timeout latest q a))
+  store-falls k latest Store.Disabling a f = omega (arith, store-sent-left k Store.Disabled (sending-of a))
+  store-falls k latest Store.Disabled a f = omega arith
+  store-falls k latest Store.Storing a f = omega (arith, store-sent-left k Store.Stored (sending-of a))
+  store-falls k latest Store.Stored a f = omega arith
+
+  store-covers : (k : β .Known) (s : Store) → weigh β (store-want s) ≤ store-left β k s
+  store-covers k (Store.Asking q) = omega (arith, ask-covers RequestFeedback state-timeout k q)
+  store-covers k Store.Disabling = omega arith
+  store-covers k Store.Disabled = omega arith
+  store-covers k Store.Storing = omega arith
+  store-covers k Store.Stored = omega arith
+
+  -- ---- the confirmed write
+
+  ack-found : (k : β .Known) (o : Instant) (v : RegisterValue) (e : Entry) → acked-left β k (AckSpec.found o v e) ≤ β .wait-left ack-timeout k (Checking o)
+  ack-found k o v Empty = omega arith
+  ack-found k o v (Held got stamp) = go (same-value got v)
+    where
+      go : (b : Bool) → acked-left β k (cond b Ack.Acked (Ack.Failed (Mismatch got))) ≤ β .wait-left ack-timeout k (Checking o)
+      go true = omega arith
+      go false = omega arith
+
+  ack-waited-left : (k : β .Known) (v : RegisterValue) (e : Entry) (x : Waited) → acked-left β k (ack-waited v e x) ≤ waited-left ack-timeout k x
+  ack-waited-left k v e (Waited.Goes w) = omega arith
+  ack-waited-left k v e (Waited.Looks o) = ack-found k o v (fresh-entry o e)
+  ack-waited-left k v e Waited.Late = omega arith
+
+  pub ack-falls : (k : β .Known) (v : RegisterValue) (e : Entry) (q : AckWait) (a : Answer) → fine β (ack-want q) a k → weigh β (ack-want q) + acked-left β (known-after β (ack-want q) a k) (ack-step v e q a) ≤ ack-left β k q
+  ack-falls k v e AckWait.Opening a f =
+      let t = reading-of a in
+      omega (arith, ack-found (β .hear t) t v (fresh-entry t e), β .opens ack-timeout t)
+  ack-falls k v e (AckWait.Waiting w) a f =
+      omega (arith, wait-falls ack-timeout k w a f, ack-waited-left (known-after β (wait-want w) a k) v e (wait-step ack-timeout w a))
+
+  again-left : (rid : ℕ) (v : RegisterValue) (k : β .Known) (n : ℕ) (failure : Failure) → written-left β rid v k (again n failure) ≤ more-tries β rid v n
+  unfolding more-tries
+  again-left rid v k zero failure = omega arith
+  again-left rid v k (suc n) failure = omega arith
+
+  write-waited-left : (rid : ℕ) (v : RegisterValue) (k : β .Known) (n : ℕ) (x : AckNext) → written-left β rid v k (write-waited n x) ≤ acked-left β k x + more-tries β rid v n
+  write-waited-left rid v k n (Ack.Goes q) = omega arith
+  write-waited-left rid v k n Ack.Acked = omega arith
+  write-waited-left rid v k n (Ack.Failed failure) = omega (arith, again-left rid v k n failure)
+
+  write-sent-left : (rid : ℕ) (v : RegisterValue) (k : β .Known) (n : ℕ) (x : Sending) → written-left β rid v k (write-sent n x) ≤ β .clock + β .opened ack-timeout + more-tries β rid v n
+  write-sent-left rid v k n Went.Sent = omega arith
+  write-sent-left rid v k n (Went.Failed failure) = omega arith
+
+  pub write-falls : (rid : ℕ) (v : RegisterValue) (k : β .Known) (e : Entry) (w : Write) (a : Answer) → fine β (write-want rid v w) a k → weigh β (write-want rid v w) + written-left β rid v (known-after β (write-want rid v w) a k) (write-step v e w a) ≤ write-left β rid v k w
+  write-falls rid v k e (Write.Sending n) a f = omega (arith, write-sent-left rid v k n (sending-of a))
+  write-falls rid v k e (Write.Waiting n q) a f =
+      omega (arith, ack-falls k v e q a f, write-waited-left rid v (known-after β (ack-want q) a k) n (ack-step v e q a))
+  write-falls rid v k e (Write.Gap n) a f = omega arith
+
+  write-covers : (rid : ℕ) (v : RegisterValue) (k : β .Known) (w : Write) → weigh β (write-want rid v w) ≤ write-left β rid v k w
+  write-covers rid v k (Write.Sending n) = omega arith
+  write-covers rid v k (Write.Waiting n AckWait.Opening) = omega arith
+  write-covers rid v k (Write.Waiting n (AckWait.Waiting w)) = omega (arith, wait-covers ack-timeout k w)
+  write-covers rid v k (Write.Gap n) = omega arith
+
+  -- ---- a run's machine
+
+  after-read-left : (t : RegisterDataType) (rid : ℕ) (l : Duration) (k : β .Known) (x : ReadNext) → left β k (after-read t rid l x) ≡ read-left β rid l k x
+  after-read-left t rid l k (Read.Goes q) = refl
+  after-read-left t rid l k (Read.Got value) = refl
+  after-read-left t rid l k (Read.Failed failure) = refl
+
+  after-write-left : (rid : ℕ) (v : RegisterValue) (k : β .Known) (x : WriteNext) → left β k (after-write rid v x) ≡ written-left β rid v k x
+  after-write-left rid v k (Written.Goes w) = refl
+  after-write-left rid v k Written.Written = refl
+  after-write-left rid v k (Written.Failed failure) = refl
+
+  after-state-left : (l : Duration) (k : β .Known) (x : StateNext) → left β k (after-state l x) ≡ state-left β l k x
+  after-state-left l k (State.Goes q) = refl
+  after-state-left l k (State.Got s) = refl
+  after-state-left l k State.NoState = refl
+  after-state-left l k (State.Failed failure) = refl
+
+  after-store-left : (k : β .Known) (x : StoreNext) → left β k (after-store x) ≡ stored-left β k x
+  after-store-left k (Stored.Goes s) = refl
+  after-store-left k Stored.Done = refl
+  after-store-left k (Stored.Failed failure) = refl
+
+  pub falls : (k : β .Known) (latest : Latest) (e : Entry) (m : Machine) (a : Answer) → fine β (machine-want m) a k → weigh β (machine-want m) + left β (known-after β (machine-want m) a k) (machine-step latest e m a) ≤ machine-left β k m
+  falls k latest e (GetRegister t rid l q) a f =
+      omega (arith, get-falls t rid l k e q a f, after-read-left t rid l (known-after β (ask-want (ReadRegister rid) q) a k) (get-step t l e q a))
+  falls k latest e (WriteRegister rid v w) a f =
+      omega (arith, write-falls rid v k e w a f, after-write-left rid v (known-after β (write-want rid v w) a k) (write-step v e w a))
+  falls k latest e (RequestFreshState l q) a f =
+      omega (arith, state-falls l k latest q a f, after-state-left l (known-after β (ask-want RequestFeedback q) a k) (state-step l latest q a))
+  falls k latest e (StoreParameters s) a f =
+      omega (arith, store-falls k latest s a f, after-store-left (known-after β (store-want s) a k) (store-step latest s a))
+
+  pub covers : (k : β .Known) (m : Machine) → weigh β (machine-want m) ≤ machine-left β k m
+  covers k (GetRegister t rid l q) = ask-covers (ReadRegister rid) l k q
+  covers k (WriteRegister rid v w) = write-covers rid v k w
+  covers k (RequestFreshState l q) = ask-covers RequestFeedback l k q
+  covers k (StoreParameters s) = store-covers k s
+
+  -- ---- a whole run
+
+  pub bounded : (ts : List Turn) (k : β .Known) (n : Next) → All-fine β ts k n → total (weigh β) (wants-from ts n) ≤ left β k n
+  unfolding wants-from total All-fine
+  bounded [] k (Ends r) f = omega arith
+  bounded [] k (Goes m) f = omega (arith, covers k m)
+  bounded (t ∷ ts) k (Ends r) f = omega arith
+  bounded (t ∷ ts) k (Goes m) f =
+      omega (arith, falls k (t .latest) (t .entry) m (t .answer) (f .0), bounded ts (known-after β (machine-want m) (t .answer) k) (machine-step (t .latest) (t .entry) m (t .answer)) (f .1))

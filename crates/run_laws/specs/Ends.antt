@@ -1,0 +1,90 @@
+-- What the end of a wait has seen. Definitions only.
+use Prim.Native.Nat.{_+_, _≤_}
+use mathlib.Core.Path.{_≡_}
+use mathlib.Core.Bool.{true, false}
+use mathlib.Core.Logic.{_⊎_}
+use mathlib.Core.Option.{Option, none, some}
+use Rattle.motor_core.specs.declared.time.Instant.{Instant}
+use Rattle.motor_core.specs.declared.time.Duration.{Duration}
+use Rattle.registers.specs.Value.{same-value}
+use Rattle.registers.specs.declared.RegisterValue.{RegisterValue}
+use Rattle.feedback.specs.declared.FeedbackSnapshot.{FeedbackSnapshot}
+use Rattle.feedback.specs.declared.Latest.{Latest}
+use Rattle.feedback.specs.declared.Latest.the-variants.{Snapshot}
+use Rattle.feedback.specs.declared.MotorFeedbackState.{MotorFeedbackState}
+use Rattle.cache.specs.declared.Entry.{Entry}
+use Rattle.cache.specs.declared.Entry.the-variants.{Held}
+use Rattle.want.specs.Want.{reading-of, sending-of}
+use Rattle.want.specs.declared.Answer.{Answer}
+use Rattle.want.specs.declared.Failure.{Failure}
+use Rattle.want.specs.declared.Failure.the-variants.{Timeout, Mismatch}
+use Rattle.want.specs.declared.Sending.the-variants as Went
+use Rattle.wait.specs.declared.Wait.{Wait}
+use Rattle.wait.specs.declared.Wait.the-variants.{Checking, Napping}
+use Rattle.wait.specs.declared.ask.Ask.{Ask}
+use Rattle.wait.specs.declared.ask.Ask.the-variants.{Opening, Sending, Waiting}
+use Rattle.register_read.specs.declared.ReadNext.{ReadNext}
+use Rattle.register_read.specs.declared.ReadNext.the-variants as Read
+use Rattle.confirmed_write.specs.Ack.{ack-timeout}
+use Rattle.confirmed_write.specs.declared.ack.AckNext.{AckNext}
+use Rattle.confirmed_write.specs.declared.ack.AckNext.the-variants as Ack
+use Rattle.confirmed_write.specs.declared.ack.AckWait.{AckWait}
+use Rattle.confirmed_write.specs.declared.ack.AckWait.the-variants as AckWait
+use Rattle.fresh_state.specs.declared.StateNext.{StateNext}
+use Rattle.fresh_state.specs.declared.StateNext.the-variants as State
+
+-- the opening that a phase has taken
+abbrev pub wait-opening : Wait → Instant
+wait-opening (Checking o) = o
+wait-opening (Napping o) = o
+
+abbrev pub ask-opening : Ask → Option Instant
+ask-opening Opening = none
+ask-opening (Sending o) = some o
+ask-opening (Waiting w) = some (wait-opening w)
+
+-- an ack wait's opening, when the answer is in: its first answer is the opening itself
+abbrev pub ack-opening : AckWait → Answer → Instant
+ack-opening AckWait.Opening answer = reading-of answer
+ack-opening (AckWait.Waiting w) answer = wait-opening w
+
+-- the slot holds the value, stamped no earlier than the opening
+pub record Found (o : Instant) (entry : Entry) (value : RegisterValue) : Type 0 where
+  pub stamp : Instant
+  pub holds : entry ≡ Held value stamp
+  pub fresh : o .0 ≤ stamp .0
+
+-- the latest record is that state's, stamped no earlier than the opening
+pub record Reported (o : Instant) (latest : Latest) (s : MotorFeedbackState) : Type 0 where
+  pub snapshot : FeedbackSnapshot
+  pub is-latest : latest ≡ Snapshot snapshot
+  pub its-state : snapshot .state ≡ s
+  pub fresh : o .0 ≤ snapshot .«received_at» .0
+
+-- the reading is at the deadline or past it
+abbrev pub Past : Instant → Duration → Answer → Type 0
+Past o l answer = o .0 + l .0 ≤ reading-of answer .0
+
+-- a send that failed so
+abbrev pub Unsent : Failure → Answer → Type 0
+Unsent failure answer = sending-of answer ≡ Went.Failed failure
+
+-- what a register read has seen with an answer, if it ends there
+abbrev pub ReadSaw : Duration → Entry → Ask → Answer → ReadNext → Type 0
+ReadSaw l entry ask answer (Read.Goes next) = Unit {0}
+ReadSaw l entry ask answer (Read.Got value) = (o : Instant) × (ask-opening ask ≡ some o) × Found o entry value
+ReadSaw l entry ask answer (Read.Failed failure) = Unsent failure answer ⊎ ((o : Instant) × (ask-opening ask ≡ some o) × Past o l answer × (failure ≡ Timeout))
+
+-- an ack wait
+abbrev pub AckSaw : RegisterValue → Entry → AckWait → Answer → AckNext → Type 0
+AckSaw value entry ack answer (Ack.Goes next) = Unit {0}
+AckSaw value entry ack answer Ack.Acked = (got : RegisterValue) × Found (ack-opening ack answer) entry got × (same-value got value ≡ true)
+AckSaw value entry ack answer (Ack.Failed failure) =
+    ((got : RegisterValue) × Found (ack-opening ack answer) entry got × (same-value got value ≡ false) × (failure ≡ Mismatch got)) ⊎ (Past (ack-opening ack answer) ack-timeout answer × (failure ≡ Timeout))
+
+-- a fresh-state request
+abbrev pub StateSaw : Duration → Latest → Ask → Answer → StateNext → Type 0
+StateSaw l latest ask answer (State.Goes next) = Unit {0}
+StateSaw l latest ask answer (State.Got state) = (o : Instant) × (ask-opening ask ≡ some o) × Reported o latest state
+StateSaw l latest ask answer State.NoState = (o : Instant) × (ask-opening ask ≡ some o) × Past o l answer
+StateSaw l latest ask answer (State.Failed failure) = Unsent failure answer

@@ -1,0 +1,104 @@
+-- The starts of the runs: document 01's 'The runs' and 'Turned back'. Definitions only.
+use Prim.Native.Nat.{ℕ}
+use mathlib.Core.Bool.{cond}
+use Rattle.float.specs.declared.F32Bits.{F32Bits}
+use Rattle.motor_core.specs.Error as Error
+use Rattle.motor_core.specs.Time.{timeout-accepted}
+use Rattle.motor_core.specs.declared.time.Duration.{Duration}
+use Rattle.registers.specs.Registers.{known, info-of}
+use Rattle.registers.specs.Value.{of-type, value-of}
+use Rattle.registers.specs.declared.RegisterAccess.{RegisterAccess}
+use Rattle.registers.specs.declared.RegisterAccess.the-variants.{ReadOnly, ReadWrite}
+use Rattle.registers.specs.declared.RegisterDataType.{RegisterDataType}
+use Rattle.registers.specs.declared.RegisterDataType.the-variants.{Float, UInt32}
+use Rattle.registers.specs.declared.RegisterInfo.{RegisterInfo}
+use Rattle.registers.specs.declared.RegisterInfo.the-variants.{Unknown, Known}
+use Rattle.registers.specs.declared.RegisterValue.{RegisterValue}
+use Rattle.registers.specs.declared.RegisterValue.the-variants as Value
+use Rattle.wait.specs.declared.ask.Ask.the-variants.{Opening}
+use Rattle.confirmed_write.specs.Write.{first-try}
+use Rattle.fresh_state.specs.declared.store.Store.the-variants.{Asking}
+use Rattle.machine.specs.Machine.{machine-want}
+use Rattle.machine.specs.declared.Machine.the-variants.{GetRegister, WriteRegister, RequestFreshState, StoreParameters}
+use Rattle.session.specs.declared.Run.{Run}
+use Rattle.session.specs.declared.Phase.{Phase}
+use Rattle.session.specs.declared.Phase.the-variants.{Closed, Open}
+use Rattle.session.specs.declared.Session.{Session}
+use Rattle.runs.specs.Runs.{wanted}
+use Rattle.runs.specs.declared.Told.{Told}
+use Rattle.runs.specs.declared.Told.the-variants as Told
+use Rattle.runs.specs.declared.Turn.{Turn}
+use Rattle.run_starts.specs.declared.Opened.{Opened}
+use Rattle.run_starts.specs.declared.Start.{Start}
+use Rattle.run_starts.specs.declared.Start.the-variants.{Accepted, Refused}
+
+-- a read: 4, then 7
+abbrev pub get-start : RegisterDataType → ℕ → Duration → Start
+get-start data-type rid timeout =
+    cond (known rid)
+    (cond (timeout-accepted timeout) (Accepted (GetRegister data-type rid timeout Opening)) (Refused Error.timeout))
+    (Refused Error.register)
+
+-- a write: 4, then 5, then 6
+abbrev pub write-known : RegisterAccess → RegisterDataType → ℕ → RegisterValue → Start
+write-known ReadOnly data-type rid value = Refused Error.read-only
+write-known ReadWrite data-type rid value = cond (of-type value data-type) (Accepted (WriteRegister rid value first-try)) (Refused Error.value-type)
+
+abbrev pub write-by : RegisterInfo → ℕ → RegisterValue → Start
+write-by Unknown rid value = Refused Error.register
+write-by (Known access data-type) rid value = write-known access data-type rid value
+
+abbrev pub write-start : ℕ → RegisterValue → Start
+write-start rid value = write-by (info-of rid) rid value
+
+-- a fresh-state request: 7
+abbrev pub fresh-state-start : Duration → Start
+fresh-state-start timeout = cond (timeout-accepted timeout) (Accepted (RequestFreshState timeout Opening)) (Refused Error.timeout)
+
+-- storing is refused only where a run is open
+abbrev pub store-start : Start
+store-start = Accepted (StoreParameters (Asking Opening))
+
+abbrev pub opened : Told → Run → Opened
+opened told run = record { told = told; run = run }
+
+-- where no run is open: the run is, and its first want is told; or the refusal
+abbrev pub first-want : ℕ → Run → Start → Opened
+first-want motor run (Refused number) = opened (Told.Refused number) run
+first-want motor run (Accepted machine) = opened (wanted motor (machine-want machine)) (record { phase = Open machine })
+
+-- 8 comes before all else
+abbrev pub start-by : Phase → ℕ → Run → Start → Opened
+start-by Closed motor run start = first-want motor run start
+start-by (Open machine) motor run start = opened (Told.Refused Error.run-open) run
+
+abbrev pub start-step : ℕ → Run → Start → Opened
+start-step motor run start = start-by (run .phase) motor run start
+
+-- nothing but the run changes; no reading is taken
+abbrev pub with-opened : Session → Opened → Turn
+with-opened s o = record {
+  session = record { heard = s .heard; replies = s .replies; acks = s .acks; run = o .run };
+  told = o .told;
+}
+
+abbrev pub begin : Session → Start → Turn
+begin s start = with-opened s (start-step (s .heard .«motor_id») (s .run) start)
+
+unfoldable pub get-register-u32 : Session → ℕ → Duration → Turn
+get-register-u32 s rid timeout = begin s (get-start UInt32 rid timeout)
+
+unfoldable pub get-register-f32 : Session → ℕ → Duration → Turn
+get-register-f32 s rid timeout = begin s (get-start Float rid timeout)
+
+unfoldable pub write-register-u32 : Session → ℕ → ℕ → Turn
+write-register-u32 s rid value = begin s (write-start rid (Value.UInt32 value))
+
+unfoldable pub write-register-f32 : Session → ℕ → F32Bits → Turn
+write-register-f32 s rid value = begin s (write-start rid (value-of Float (value .0)))
+
+unfoldable pub request-fresh-state : Session → Duration → Turn
+request-fresh-state s timeout = begin s (fresh-state-start timeout)
+
+unfoldable pub store-parameters : Session → Turn
+store-parameters s = begin s store-start

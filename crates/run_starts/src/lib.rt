@@ -1,0 +1,184 @@
+// The starts of the runs. A start takes no reading; it is told the first want.
+ghost use mathlib.Core.Path.{_≡_};
+ghost use Rattle.run_starts.specs.Start as Spec;
+use confirmed_write::first_try;
+use float::F32Bits;
+use fresh_state::store::Store;
+use machine::Machine;
+use machine::machine_want;
+use motor_core::error::READ_ONLY;
+use motor_core::error::REGISTER;
+use motor_core::error::RUN_OPEN;
+use motor_core::error::TIMEOUT;
+use motor_core::error::VALUE_TYPE;
+use motor_core::time::Duration;
+use motor_core::time::accepts_timeout;
+use registers::RegisterAccess;
+use registers::RegisterDataType;
+use registers::RegisterInfo;
+use registers::RegisterValue;
+use registers::is_known;
+use registers::is_of_type;
+use registers::register_info;
+use registers::value_from_bits;
+use runs::Told;
+use runs::Turn;
+use runs::wanted;
+use session::Phase;
+use session::Run;
+use session::Session;
+use wait::ask::Ask;
+
+// A run's machine at its beginning, or why its arguments are refused.
+pub enum Start {
+    Accepted(Machine),
+    Refused(u8),
+}
+
+// The run after a start, and what the start is told.
+struct Opened {
+    told: Told,
+    run: Run,
+}
+
+// A start where no run is open.
+fn first_want(motor_id: u16, run: Run, start: Start) -> Opened
+    ensures { λ r. ⌜ r ≡ Spec.first-want «motor_id» run start ⌝ }
+{
+    match start {
+        Start::Refused(number) => Opened {
+            told: Told::Refused(number),
+            run,
+        },
+        Start::Accepted(machine) => Opened {
+            told: wanted(motor_id, machine_want(machine)),
+            run: Run {
+                phase: Phase::Open(machine),
+            },
+        },
+    }
+}
+
+fn start_step(motor_id: u16, run: Run, start: Start) -> Opened
+    ensures { λ r. ⌜ r ≡ Spec.start-step «motor_id» run start ⌝ }
+{
+    let phase = run.phase;
+    match phase {
+        Phase::Closed => first_want(motor_id, run, start),
+        Phase::Open(_) => Opened {
+            told: Told::Refused(RUN_OPEN),
+            run,
+        },
+    }
+}
+
+fn begin(session: Session, start: Start) -> Turn
+    ensures { λ r. ⌜ r ≡ Spec.begin session start ⌝ }
+{
+    let mut session = session;
+    let heard = session.heard;
+    let run = session.run;
+    let step = start_step(heard.motor_id, run, start);
+    let run_after = step.run;
+    let told = step.told;
+    session.run = run_after;
+    Turn { session, told }
+}
+
+fn get_start(data_type: RegisterDataType, rid: u8, timeout: Duration) -> Start
+    ensures { λ r. ⌜ r ≡ Spec.get-start «data_type» rid timeout ⌝ }
+{
+    if !is_known(rid) {
+        return Start::Refused(REGISTER);
+    }
+    if !accepts_timeout(timeout) {
+        return Start::Refused(TIMEOUT);
+    }
+    Start::Accepted(Machine::GetRegister(data_type, rid, timeout, Ask::Opening))
+}
+
+fn write_start(rid: u8, value: RegisterValue) -> Start
+    ensures { λ r. ⌜ r ≡ Spec.write-start rid value ⌝ }
+{
+    let info = register_info(rid);
+    match info {
+        RegisterInfo::Unknown => Start::Refused(REGISTER),
+        RegisterInfo::Known(access, data_type) => write_known(access, data_type, rid, value),
+    }
+}
+
+fn write_known(
+    access: RegisterAccess,
+    data_type: RegisterDataType,
+    rid: u8,
+    value: RegisterValue,
+) -> Start
+    ensures { λ r. ⌜ r ≡ Spec.write-known access «data_type» rid value ⌝ }
+{
+    match access {
+        RegisterAccess::ReadOnly => Start::Refused(READ_ONLY),
+        RegisterAccess::ReadWrite => {
+            if !is_of_type(value, data_type) {
+                return Start::Refused(VALUE_TYPE);
+            }
+            Start::Accepted(Machine::WriteRegister(rid, value, first_try()))
+        }
+    }
+}
+
+fn fresh_state_start(timeout: Duration) -> Start
+    ensures { λ r. ⌜ r ≡ Spec.fresh-state-start timeout ⌝ }
+{
+    if !accepts_timeout(timeout) {
+        return Start::Refused(TIMEOUT);
+    }
+    Start::Accepted(Machine::RequestFreshState(timeout, Ask::Opening))
+}
+
+// Reads a register that holds a whole number; refused with 8, 4 or 7.
+pub fn get_register_u32(session: Session, rid: u8, timeout: Duration) -> Turn
+    ensures { λ r. ⌜ r ≡ Spec.get-register-u32 session rid timeout ⌝ }
+{
+    begin(session, get_start(RegisterDataType::UInt32, rid, timeout))
+}
+
+// Reads a register that holds a float; refused with 8, 4 or 7.
+pub fn get_register_f32(session: Session, rid: u8, timeout: Duration) -> Turn
+    ensures { λ r. ⌜ r ≡ Spec.get-register-f32 session rid timeout ⌝ }
+{
+    begin(session, get_start(RegisterDataType::Float, rid, timeout))
+}
+
+// Writes a whole number and waits for its ack; refused with 8, 4, 5 or 6.
+pub fn write_register_u32(session: Session, rid: u8, value: u32) -> Turn
+    ensures { λ r. ⌜ r ≡ Spec.write-register-u32 session rid value ⌝ }
+{
+    begin(session, write_start(rid, RegisterValue::UInt32(value)))
+}
+
+// Writes a float, given by its bits, and waits for its ack; refused with 8, 4, 5 or 6.
+pub fn write_register_f32(session: Session, rid: u8, value: F32Bits) -> Turn
+    ensures { λ r. ⌜ r ≡ Spec.write-register-f32 session rid value ⌝ }
+{
+    begin(
+        session,
+        write_start(rid, value_from_bits(RegisterDataType::Float, value.0)),
+    )
+}
+
+// Asks the motor for its state; refused with 8 or 7.
+pub fn request_fresh_state(session: Session, timeout: Duration) -> Turn
+    ensures { λ r. ⌜ r ≡ Spec.request-fresh-state session timeout ⌝ }
+{
+    begin(session, fresh_state_start(timeout))
+}
+
+// Stores the motor's parameters, disabling it first if need be; refused with 8.
+pub fn store_parameters(session: Session) -> Turn
+    ensures { λ r. ⌜ r ≡ Spec.store-parameters session ⌝ }
+{
+    begin(
+        session,
+        Start::Accepted(Machine::StoreParameters(Store::Asking(Ask::Opening))),
+    )
+}

@@ -1,0 +1,137 @@
+-- What an answer does to a session, and what it leaves alone. Assumes nothing.
+use Prim.Native.Nat.{ℕ, _≤_, _^_}
+use mathlib.Core.Path.{_≡_, refl, sym, ap, subst}
+use mathlib.Core.Bool.{Bool, true, false, cond}
+use native.Mathlib.Nat.{le-refl}
+use Rattle.motor_core.specs.Error as Error
+use Rattle.motor_core.specs.declared.time.Instant.{Instant}
+use Rattle.motor_core.proofs.Readings.{between, in-order}
+use Rattle.cache.specs.declared.Entry.{Entry}
+use Rattle.want.specs.Want.{fits}
+use Rattle.want.specs.declared.Answer.{Answer}
+use Rattle.want.specs.declared.Answer.the-variants.{Reading, Sent, SendTimeout, SendFailed, Slept}
+use Rattle.want.specs.declared.Want.{Want}
+use Rattle.want.specs.declared.Want.the-variants.{Clock, Send, Sleep}
+use Rattle.machine.specs.Machine.{machine-want, machine-step}
+use Rattle.machine.specs.declared.Machine.{Machine}
+use Rattle.machine.specs.declared.Next.{Next}
+use Rattle.machine.specs.declared.Next.the-variants.{Goes, Ends}
+use Rattle.session.specs.Session.{with-last}
+use Rattle.session.specs.declared.Heard.{Heard}
+use Rattle.session.specs.declared.Phase.{Phase}
+use Rattle.session.specs.declared.Phase.the-variants.{Closed, Open}
+use Rattle.session.specs.declared.Session.{Session}
+use Rattle.runs.specs.Effects.{Follows, Told-truly, Kept}
+use Rattle.runs.specs.Runs.{wanted, answer-accepted, heard-after, stepped, refused, answer-by, phase-place, entry-at, with-step, answer-run}
+use Rattle.runs.specs.declared.Told.{Told}
+use Rattle.runs.specs.declared.Told.the-variants.{Refused}
+use Rattle.runs.specs.declared.Turn.{Turn}
+
+-- what is told of an open machine is what it wants
+pub wants-follow : (before after : Session) (m : Machine) (w : Want) → machine-want m ≡ w → after .run ≡ record { phase = Open m } → Follows before (wanted (after .heard .«motor_id») w) after
+wants-follow before after m Clock e o = record { machine = m; is-open = o; tells = ap (wanted _) (sym e) }
+wants-follow before after m (Send message) e o = record { machine = m; is-open = o; tells = ap (wanted _) (sym e) }
+wants-follow before after m (Sleep length) e o = record { machine = m; is-open = o; tells = ap (wanted _) (sym e) }
+
+-- an answer changes nothing of what was heard but the last reading
+heard-same : {A : Type 0} {h : Heard} (part : Heard → A) → ((t : Instant) → part (with-last h t) ≡ part h) → (a : Answer) → part (heard-after h a) ≡ part h
+heard-same part e (Reading t) = e t
+heard-same part e Sent = refl
+heard-same part e SendTimeout = refl
+heard-same part e SendFailed = refl
+heard-same part e Slept = refl
+
+-- ---- an answer is refused, or taken by an open machine that wants its kind
+
+module _ (s : Session) (a : Answer) where
+  abbrev pub entry : Entry
+  entry = entry-at (s .replies) (s .acks) (phase-place (s .run .phase))
+
+  abbrev pub stepped-by : Machine → Turn
+  stepped-by m = with-step s (stepped (heard-after (s .heard) a) (machine-step (s .heard .feedback .latest) entry m a))
+
+  abbrev turned : ℕ → Turn
+  turned n = with-step s (refused (s .heard) (s .run) n)
+
+  pub answer-cases : (P : Turn → Type 0) → ((n : ℕ) → P (record { session = s; told = Refused n })) → ((m : Machine) → s .run .phase ≡ Open m → fits (machine-want m) a ≡ true → answer-accepted (s .heard .last) a ≡ true → P (stepped-by m)) → P (answer-run s a)
+  unfolding answer-run
+  answer-cases P no-turn turn = by (s .run .phase) refl
+    where
+      read : (m : Machine) → s .run .phase ≡ Open m → fits (machine-want m) a ≡ true → (b : Bool) → answer-accepted (s .heard .last) a ≡ b → P (with-step s (cond b (stepped (heard-after (s .heard) a) (machine-step (s .heard .feedback .latest) entry m a)) (refused (s .heard) (s .run) Error.reading)))
+      read m o f true e = turn m o f e
+      read m o f false e = no-turn Error.reading
+
+      fit : (m : Machine) → s .run .phase ≡ Open m → (b : Bool) → fits (machine-want m) a ≡ b → P (with-step s (cond b (cond (answer-accepted (s .heard .last) a) (stepped (heard-after (s .heard) a) (machine-step (s .heard .feedback .latest) entry m a)) (refused (s .heard) (s .run) Error.reading)) (refused (s .heard) (s .run) Error.not-wanted)))
+      fit m o true e = read m o e (answer-accepted (s .heard .last) a) refl
+      fit m o false e = no-turn Error.not-wanted
+
+      by : (p : Phase) → s .run .phase ≡ p → P (with-step s (answer-by p (s .heard) entry (s .run) a))
+      by Closed e = no-turn Error.not-wanted
+      by (Open m) e = fit m e (fits (machine-want m) a) refl
+
+  -- what it tells is what the run then wants
+  pub answer-follows : Told-truly s (answer-run s a)
+  answer-follows = answer-cases (Told-truly s) (λ n. refl) (λ m o f e. next (machine-step (s .heard .feedback .latest) entry m a))
+    where
+      next : (n : Next) → Told-truly s (with-step s (stepped (heard-after (s .heard) a) n))
+      next (Goes m) = wants-follow s (with-step s (stepped (heard-after (s .heard) a) (Goes m)) .session) m (machine-want m) refl refl
+      next (Ends r) = refl
+
+  -- ids, limits, record and caches stay
+  pub answer-keeps : Kept s (answer-run s a .session)
+  answer-keeps = answer-cases (λ t. Kept s (t .session)) (λ n. same) (λ m o f e. next (machine-step (s .heard .feedback .latest) entry m a))
+    where
+      same : Kept s s
+      same = record { motor-id = refl; feedback-id = refl; limits = refl; record-kept = refl; replies = refl; acks = refl }
+
+      next : (n : Next) → Kept s (with-step s (stepped (heard-after (s .heard) a) n) .session)
+      next (Goes m) = record {
+        motor-id = heard-same (λ (h : Heard). h .«motor_id») (λ t. refl) a;
+        feedback-id = heard-same (λ (h : Heard). h .«feedback_id») (λ t. refl) a;
+        limits = heard-same (λ (h : Heard). h .limits) (λ t. refl) a;
+        record-kept = heard-same (λ (h : Heard). h .feedback) (λ t. refl) a;
+        replies = refl;
+        acks = refl;
+      }
+      next (Ends r) = record {
+        motor-id = heard-same (λ (h : Heard). h .«motor_id») (λ t. refl) a;
+        feedback-id = heard-same (λ (h : Heard). h .«feedback_id») (λ t. refl) a;
+        limits = heard-same (λ (h : Heard). h .limits) (λ t. refl) a;
+        record-kept = heard-same (λ (h : Heard). h .feedback) (λ t. refl) a;
+        replies = refl;
+        acks = refl;
+      }
+
+-- ---- a refusal
+
+pub untouched : (before after : Session) (told : Told) (n : ℕ) → told ≡ Refused n → Follows before told after → after ≡ before
+untouched before after told n e f = subst (λ (t : Told). Follows before t after) e f
+
+pub answer-refused : (s : Session) (a : Answer) (n : ℕ) → answer-run s a .told ≡ Refused n → answer-run s a .session ≡ s
+answer-refused s a n e = untouched s (answer-run s a .session) (answer-run s a .told) n e (answer-follows s a)
+
+-- ---- the last reading
+
+abbrev In-bounds : Session → Session → Type 0
+In-bounds before after = (before .heard .last .0 ≤ after .heard .last .0) × (before .heard .last .0 ≤ 2 ^ 62 → after .heard .last .0 ≤ 2 ^ 62)
+
+pub answer-last : (s : Session) (a : Answer) → In-bounds s (answer-run s a .session)
+answer-last s a = answer-cases s a (λ t. In-bounds s (t .session)) (λ n. (le-refl _, λ b. b)) (λ m o f e. next (machine-step (s .heard .feedback .latest) (entry s a) m a) a e)
+  where
+    later : (b : Answer) → answer-accepted (s .heard .last) b ≡ true → In-bounds s (record { heard = heard-after (s .heard) b; replies = s .replies; acks = s .acks; run = s .run })
+    later (Reading t) e = let h = between (s .heard .last) t e in (h .0, λ b. h .1)
+    later Sent e = (le-refl _, λ b. b)
+    later SendTimeout e = (le-refl _, λ b. b)
+    later SendFailed e = (le-refl _, λ b. b)
+    later Slept e = (le-refl _, λ b. b)
+
+    next : (n : Next) (b : Answer) → answer-accepted (s .heard .last) b ≡ true → In-bounds s (with-step s (stepped (heard-after (s .heard) b) n) .session)
+    next (Goes m) b e = later b e
+    next (Ends r) b e = later b e
+
+-- ---- an open run always has an answer that is taken
+
+pub answerable : (last : Instant) (w : Want) → last .0 ≤ 2 ^ 62 → (a : Answer) × (fits w a ≡ true) × (answer-accepted last a ≡ true)
+answerable last Clock b = (Reading last, refl, in-order last last (le-refl _) b)
+answerable last (Send message) b = (Sent, refl, refl)
+answerable last (Sleep length) b = (Slept, refl, refl)

@@ -1,0 +1,51 @@
+-- `runs::heard_after` meets its contract. Assumes nothing.
+use mathlib.Core.Path.{sym, ap}
+use Rattle.runs.specs.Runs.{heard-after}
+use borrow.Author.Needs.{needs}
+use Rattle.runs.proofs.heard_after.Statement.{statement}
+use Rattle.runs.proofs.heard_after.Tie as tie
+
+enum-known-answer : tie.Need-enum-known-answer
+enum-known-answer c = search needs
+
+enum-told : tie.Need-enum-told
+enum-told c = search needs
+
+enum-told-2 : tie.Need-enum-told-2
+enum-told-2 c = search needs
+
+enum-told-3 : tie.Need-enum-told-3
+enum-told-3 c = search needs
+
+enum-told-4 : tie.Need-enum-told-4
+enum-told-4 c = search needs
+
+returns : tie.Need-returns
+returns c = sym (ap (heard-after (c .before .before .before .args .heard)) (c .before .answer .given .1))
+
+returns-2 : tie.Need-returns-2
+returns-2 c = search needs
+
+returns-3 : tie.Need-returns-3
+returns-3 c = search needs
+
+returns-4 : tie.Need-returns-4
+returns-4 c = search needs
+
+returns-5 : tie.Need-returns-5
+returns-5 c = search needs
+
+pub heard-after-spec : {M : Type 1} → statement M
+heard-after-spec =
+    tie.close
+    (tie.spec
+    enum-known-answer
+    enum-told
+    enum-told-2
+    enum-told-3
+    enum-told-4
+    returns
+    returns-2
+    returns-3
+    returns-4
+    returns-5)

@@ -1,0 +1,203 @@
+// Answering the run of a session. The work is done on the session's small parts, with the one slot
+// that the run looks at; the entry is thin around it.
+
+ghost use mathlib.Core.Path.{_≡_};
+ghost use Rattle.runs.specs.Runs as Spec;
+use cache::Entry;
+use cache::Slot;
+use machine::Machine;
+use machine::Next;
+use machine::Place;
+use machine::RunResult;
+use machine::machine_place;
+use machine::machine_step;
+use machine::machine_want;
+use motor_core::error::NOT_WANTED;
+use motor_core::error::READING;
+use motor_core::time::Duration;
+use motor_core::time::Instant;
+use motor_core::time::accepts_reading;
+use session::Heard;
+use session::Phase;
+use session::Run;
+use session::Session;
+use want::Answer;
+use want::Want;
+use want::fits;
+use want::message::message_data;
+use want::message::message_id;
+
+// What the caller is told: what the run wants, a send by its arbitration id and data; or the result;
+// or the number of a refusal.
+pub enum Told {
+    WantClock,
+    WantSend(u32, u64),
+    WantSleep(Duration),
+    Result(RunResult),
+    Refused(u8),
+}
+
+// The small parts after an answer.
+pub struct Step {
+    pub told: Told,
+    pub heard: Heard,
+    pub run: Run,
+}
+
+pub struct Turn {
+    pub session: Session,
+    pub told: Told,
+}
+
+// How a want is told.
+pub fn wanted(motor_id: u16, want: Want) -> Told
+    ensures { λ r. ⌜ r ≡ Spec.wanted «motor_id» want ⌝ }
+{
+    match want {
+        Want::Clock => Told::WantClock,
+        Want::Send(message) => {
+            Told::WantSend(
+                message_id(motor_id, message),
+                message_data(motor_id, message),
+            )
+        }
+        Want::Sleep(length) => Told::WantSleep(length),
+    }
+}
+
+fn accepts_answer(last: Instant, answer: Answer) -> bool
+    ensures { λ r. ⌜ r ≡ Spec.answer-accepted last answer ⌝ }
+{
+    match answer {
+        Answer::Reading(reading) => accepts_reading(last, reading),
+        Answer::Sent => true,
+        Answer::SendTimeout => true,
+        Answer::SendFailed => true,
+        Answer::Slept => true,
+    }
+}
+
+fn heard_after(heard: Heard, answer: Answer) -> Heard
+    ensures { λ r. ⌜ r ≡ Spec.heard-after heard answer ⌝ }
+{
+    match answer {
+        Answer::Reading(reading) => {
+            let mut heard = heard;
+            heard.last = reading;
+            heard
+        }
+        Answer::Sent => heard,
+        Answer::SendTimeout => heard,
+        Answer::SendFailed => heard,
+        Answer::Slept => heard,
+    }
+}
+
+fn stepped(heard: Heard, next: Next) -> Step
+    ensures { λ r. ⌜ r ≡ Spec.stepped heard next ⌝ }
+{
+    match next {
+        Next::Goes(machine) => Step {
+            told: wanted(heard.motor_id, machine_want(machine)),
+            heard,
+            run: Run {
+                phase: Phase::Open(machine),
+            },
+        },
+        Next::Ends(result) => Step {
+            told: Told::Result(result),
+            heard,
+            run: Run {
+                phase: Phase::Closed,
+            },
+        },
+    }
+}
+
+fn refused(heard: Heard, run: Run, number: u8) -> Step
+    ensures { λ r. ⌜ r ≡ Spec.refused heard run number ⌝ }
+{
+    Step {
+        told: Told::Refused(number),
+        heard,
+        run,
+    }
+}
+
+fn machine_answer(heard: Heard, entry: Entry, run: Run, machine: Machine, answer: Answer) -> Step
+    ensures { λ r. ⌜ r ≡ Spec.machine-answer heard entry run machine answer ⌝ }
+{
+    if !fits(machine_want(machine), answer) {
+        return refused(heard, run, NOT_WANTED);
+    }
+    let last = heard.last;
+    if !accepts_answer(last, answer) {
+        return refused(heard, run, READING);
+    }
+    let feedback = heard.feedback;
+    let latest = feedback.latest;
+    stepped(
+        heard_after(heard, answer),
+        machine_step(latest, entry, machine, answer),
+    )
+}
+
+// Answers what the run wants, in the small parts. `entry` is what the run's place holds.
+pub fn answer_step(heard: Heard, entry: Entry, run: Run, answer: Answer) -> Step
+    ensures { λ r. ⌜ r ≡ Spec.answer-step heard entry run answer ⌝ }
+{
+    let phase = run.phase;
+    match phase {
+        Phase::Closed => refused(heard, run, NOT_WANTED),
+        Phase::Open(machine) => machine_answer(heard, entry, run, machine, answer),
+    }
+}
+
+fn run_place(run: Run) -> Place
+    ensures { λ r. ⌜ r ≡ Spec.phase-place (run .phase) ⌝ }
+{
+    let phase = run.phase;
+    match phase {
+        Phase::Closed => Place::Nowhere,
+        Phase::Open(machine) => machine_place(machine),
+    }
+}
+
+// A register's entry; for a number that has no slot, none.
+fn entry_of(slots: [Slot; 82], rid: u8) -> Entry
+    ensures { λ r. ⌜ r ≡ Spec.entry-of slots rid ⌝ }
+{
+    if rid >= 82 {
+        return Entry::Empty;
+    }
+    let slot = slots[rid as usize];
+    slot.entry
+}
+
+fn entry_at(replies: [Slot; 82], acks: [Slot; 82], place: Place) -> Entry
+    ensures { λ r. ⌜ r ≡ Spec.entry-at replies acks place ⌝ }
+{
+    match place {
+        Place::Nowhere => Entry::Empty,
+        Place::Reply(rid) => entry_of(replies, rid),
+        Place::Ack(rid) => entry_of(acks, rid),
+    }
+}
+
+// Answers what the session's run wants.
+pub fn answer_run(session: Session, answer: Answer) -> Turn
+    ensures { λ r. ⌜ r ≡ Spec.answer-run session answer ⌝ }
+{
+    let mut session = session;
+    let heard = session.heard;
+    let run = session.run;
+    let replies = session.replies;
+    let acks = session.acks;
+    let step = answer_step(heard, entry_at(replies, acks, run_place(run)), run, answer);
+    let heard_after = step.heard;
+    let run_after = step.run;
+    let told = step.told;
+    session.heard = heard_after;
+    session.run = run_after;
+    Turn { session, told }
+}

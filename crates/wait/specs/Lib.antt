@@ -1,0 +1,3 @@
+pub mod Ask
+pub mod Look
+pub mod Wait

@@ -1,0 +1,43 @@
+// The messages that runs send: which command, and its frame.
+ghost use mathlib.Core.Path.{_≡_};
+ghost use Rattle.want.specs.Message as Spec;
+use request::REGISTER_ID;
+use request::encode_disable_cmd;
+use request::encode_feedback_request_cmd;
+use request::encode_register_read_cmd;
+use request::encode_register_write_cmd;
+use request::encode_store_params_cmd;
+
+pub enum Message {
+    ReadRegister(u8),
+    WriteRegister(u8, u32),
+    RequestFeedback,
+    Disable,
+    StoreParams,
+}
+
+// The arbitration id.
+pub fn message_id(motor_id: u16, message: Message) -> u32
+    ensures { λ r. ⌜ r ≡ Spec.message-id «motor_id» message ⌝ }
+{
+    match message {
+        Message::ReadRegister(_) => REGISTER_ID,
+        Message::WriteRegister(_, _) => REGISTER_ID,
+        Message::RequestFeedback => REGISTER_ID,
+        Message::Disable => motor_id as u32,
+        Message::StoreParams => REGISTER_ID,
+    }
+}
+
+// The eight data bytes, as one number.
+pub fn message_data(motor_id: u16, message: Message) -> u64
+    ensures { λ r. ⌜ r ≡ Spec.message-data «motor_id» message ⌝ }
+{
+    match message {
+        Message::ReadRegister(rid) => encode_register_read_cmd(motor_id, rid),
+        Message::WriteRegister(rid, bits) => encode_register_write_cmd(motor_id, rid, bits),
+        Message::RequestFeedback => encode_feedback_request_cmd(motor_id),
+        Message::Disable => encode_disable_cmd(),
+        Message::StoreParams => encode_store_params_cmd(motor_id),
+    }
+}
