@@ -4,7 +4,7 @@ use motor_vendor_damiao::motor::adapter;
 use motor_vendor_damiao::registers::{register_info, REGISTER_TABLE};
 
 pub const COUNT: usize = 1_000_000;
-/// So many frames are taken into a session.
+/// So many frames are taken into a session, and so many runs are made.
 pub const TAKEN: usize = 50_000;
 
 const REPLY: u8 = 0x33;
@@ -50,6 +50,11 @@ pub fn setpoints(random: &mut Random, beyond: f32) -> Vec<f32> {
         }
     }
     all
+}
+
+/// Values that a register of whole numbers holds.
+pub fn values(random: &mut Random) -> Vec<u32> {
+    (0..TAKEN).map(|_| random.next() as u32).collect()
 }
 
 /// Queries within `reach` of a model's limits. With a tolerance, that is the fourth number of each.

@@ -1,10 +1,12 @@
 //! Measures the proved library beside the Rust original: the same loops over the same inputs, in
 //! one process and in turns.
 
+mod checksum;
 mod inputs;
 mod measure;
 mod original;
 mod ours;
+mod running;
 mod taking;
 
 use inputs::{Frame, Random};
@@ -72,6 +74,24 @@ fn take(
     work.measured(n)
 }
 
+fn run(
+    random: &mut Random,
+    name: &'static str,
+    ours: fn(&[u32]) -> u64,
+    original: fn(&[u32]) -> u64,
+    n: usize,
+) -> Result<Row, String> {
+    let input = inputs::values(random);
+    let work = Work {
+        name,
+        input: &input,
+        width: 1,
+        ours,
+        original,
+    };
+    work.measured(n)
+}
+
 fn matching(
     random: &mut Random,
     name: &'static str,
@@ -119,6 +139,8 @@ fn rows(n: usize) -> Result<Vec<Row>, String> {
         take(r, "take feedback frames, by value", inputs::feedback, n)?,
         take(r, "take replies, by value", inputs::reply, n)?,
         take(r, "take, a third of each class, by value", inputs::mixed, n)?,
+        run(r, "a register read", ours::reads, running::reads, n)?,
+        run(r, "a confirmed write", ours::writes, running::writes, n)?,
     ])
 }
 
