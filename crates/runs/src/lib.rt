@@ -3,6 +3,7 @@
 
 ghost use mathlib.Core.Path.{_≡_};
 ghost use Rattle.runs.specs.Runs as Spec;
+ghost use Rattle.runs.specs.Slots.{slot-place, place-register, entry-between};
 use cache::Entry;
 use cache::Slot;
 use machine::Machine;
@@ -163,37 +164,51 @@ fn run_place(run: Run) -> Place
     }
 }
 
-// A register's entry; for a number that has no slot, none.
-fn entry_of(slots: [Slot; 82], rid: u8) -> Entry
-    ensures { λ r. ⌜ r ≡ Spec.entry-of slots rid ⌝ }
+// Where a place's slot stands, in either cache; 0 where it has none.
+fn slot_place(place: Place) -> usize
+    ensures { λ r. ⌜ r ≡ slot-place place ⌝ }
 {
-    if rid >= 82 {
-        return Entry::Empty;
-    }
-    let slot = slots[rid as usize];
-    slot.entry
+    let rid = place_register(place);
+    if rid < 82 { rid as usize } else { 0 }
 }
 
-fn entry_at(replies: [Slot; 82], acks: [Slot; 82], place: Place) -> Entry
-    ensures { λ r. ⌜ r ≡ Spec.entry-at replies acks place ⌝ }
+fn place_register(place: Place) -> u8
+    ensures { λ r. ⌜ r ≡ place-register place ⌝ }
 {
     match place {
-        Place::Nowhere => Entry::Empty,
-        Place::Reply(rid) => entry_of(replies, rid),
-        Place::Ack(rid) => entry_of(acks, rid),
+        Place::Nowhere => 0,
+        Place::Reply(rid) => rid,
+        Place::Ack(rid) => rid,
     }
 }
 
-// Answers what the session's run wants.
+// The entry at a place, out of the two slots that stand where its own does.
+fn entry_between(place: Place, reply: Slot, ack: Slot) -> Entry
+    ensures { λ r. ⌜ r ≡ entry-between place reply ack ⌝ }
+{
+    if place_register(place) >= 82 {
+        return Entry::Empty;
+    }
+    match place {
+        Place::Nowhere => Entry::Empty,
+        Place::Reply(_) => reply.entry,
+        Place::Ack(_) => ack.entry,
+    }
+}
+
+// Answers what the session's run wants. Both slots are read where they stand: caches that are handed on
+// would be copied.
 pub fn answer_run(session: Session, answer: Answer) -> Turn
     ensures { λ r. ⌜ r ≡ Spec.answer-run session answer ⌝ }
 {
     let mut session = session;
     let heard = session.heard;
     let run = session.run;
-    let replies = session.replies;
-    let acks = session.acks;
-    let step = answer_step(heard, entry_at(replies, acks, run_place(run)), run, answer);
+    let place = run_place(run);
+    let at = slot_place(place);
+    let reply = session.replies[at];
+    let ack = session.acks[at];
+    let step = answer_step(heard, entry_between(place, reply, ack), run, answer);
     let heard_after = step.heard;
     let run_after = step.run;
     let told = step.told;

@@ -1,3 +1,4 @@
 pub mod BuiltIn
 pub mod Fresh
 pub mod Patching
+pub mod Slots
