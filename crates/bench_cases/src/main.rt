@@ -1,4 +1,5 @@
 // Bench cases that are run and not proved. Each line is a name and what came out.
+mod running;
 mod sessions;
 
 use float::F32Bits;
@@ -187,4 +188,5 @@ fn main() {
     limits(b"6248P");
     limits(b"6248");
     sessions::run();
+    running::run();
 }

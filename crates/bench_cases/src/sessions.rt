@@ -29,12 +29,12 @@ fn maxima(p_max: f32) -> Maxima {
     }
 }
 
-fn started() -> Session {
+pub(crate) fn started() -> Session {
     let start = from_limits(1, 0x11, maxima(12.5));
     start.session
 }
 
-fn take(session: Session, data: u64, reading: u64) -> Taking {
+pub(crate) fn take(session: Session, data: u64, reading: u64) -> Taking {
     process_feedback_frame(
         session,
         CanFrame {
