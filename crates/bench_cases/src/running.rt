@@ -64,17 +64,17 @@ fn told(turn: Turn) -> Session {
     turn.session
 }
 
-fn heard(session: Session, data: u64) -> Session {
-    let taking = take(session, data, 5);
+fn heard(session: Session, data: u64, reading: u64) -> Session {
+    let taking = take(session, data, reading);
     taking.session
 }
 
-// A read opens before its send: a reply that comes between the two counts, at a later reading too.
+// A read opens before its send: a reply that comes between the two counts.
 fn read_opens() {
     text(b"a read, its reply before the sent:");
     let session = told(get_register_u32(started(), 10, MINUTE));
     let session = told(answer_run(session, Answer::Reading(Instant(5))));
-    let session = heard(session, REPLY);
+    let session = heard(session, REPLY, 6);
     told(answer_run(session, Answer::Sent));
     text(b"\n");
 }
@@ -83,9 +83,9 @@ fn read_opens() {
 fn write_opens() {
     text(b"a write, its ack before the sent:");
     let session = told(write_register_u32(started(), 10, 1));
-    let session = heard(session, ACK);
+    let session = heard(session, ACK, 6);
     let session = told(answer_run(session, Answer::Sent));
-    told(answer_run(session, Answer::Reading(Instant(6))));
+    told(answer_run(session, Answer::Reading(Instant(7))));
     text(b"\n");
 }
 
@@ -94,7 +94,7 @@ fn type_tested_last() {
     text(b"register 10 as a float, with its reply:");
     let session = told(get_register_f32(started(), 10, Duration(0)));
     let session = told(answer_run(session, Answer::Reading(Instant(5))));
-    let session = heard(session, REPLY);
+    let session = heard(session, REPLY, 5);
     told(answer_run(session, Answer::Sent));
     text(b"\nwithout:");
     let session = told(get_register_f32(started(), 10, Duration(0)));
@@ -126,9 +126,9 @@ pub(crate) fn run() {
     write_opens();
     type_tested_last();
     made_up(
-        b"opening FFFFFFFFFFFFFFFF, a minute, reading 5:",
+        b"opening FFFFFFFFFFFFFFFF, length 3, reading 5:",
         10,
-        MINUTE,
+        Duration(3),
         Ask::Waiting(Wait::Checking(Instant(u64::MAX))),
         Answer::Reading(Instant(5)),
     );

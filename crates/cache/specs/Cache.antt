@@ -2,6 +2,7 @@
 use Prim.Native.Nat.{ℕ}
 use mathlib.Core.Bool.{cond}
 use mathlib.Core.List.{List}
+use lib.Dec.{ltb}
 use lib.ListN.{getD}
 use Rattle.motor_core.specs.Error as Error
 use Rattle.motor_core.specs.declared.time.Instant.{Instant}
@@ -22,6 +23,10 @@ held value stamp = record { entry = Held value stamp }
 -- a register's slot among the slots of replies, or of acks
 abbrev pub slot-of : List Slot → ℕ → Slot
 slot-of slots rid = getD slots rid empty
+
+-- where it stands; a number from 82 on has no slot
+unfoldable pub slot-place : ℕ → ℕ
+slot-place rid = cond (ltb rid 82) rid 0
 
 -- its entry; 'Turned back', 4
 abbrev pub cached-entry : List Slot → ℕ → Cached

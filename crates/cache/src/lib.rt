@@ -19,6 +19,14 @@ pub enum Cached {
     Refused(u8),
 }
 
+// Where a register's slot stands; a number from 82 on has none, and 0 stands for it. The test tells the
+// compiler the bound: with it a session is copied whole and not piece by piece.
+pub fn slot_place(rid: u8) -> usize
+    ensures { λ r. ⌜ r ≡ Spec.slot-place rid ⌝ }
+{
+    if rid < 82 { rid as usize } else { 0 }
+}
+
 // A register's entry among a session's replies, or among its acks.
 pub fn cached_entry(slots: [Slot; 82], rid: u8) -> Cached
     ensures { λ r. ⌜ r ≡ Spec.cached-entry slots rid ⌝ }

@@ -17,7 +17,7 @@ use want::Want;
 use want::reading_of;
 
 // In nanoseconds.
-const WRITE_REGISTER_ACK_TIMEOUT: u64 = 50_000_000;
+const WRITE_REGISTER_ACK_TIMEOUT: Duration = Duration(50_000_000);
 
 pub enum AckWait {
     Opening,
@@ -76,7 +76,7 @@ pub(crate) fn ack_step(value: RegisterValue, entry: Entry, ack: AckWait, answer:
         AckWait::Waiting(wait) => ack_waited(
             value,
             entry,
-            wait_step(Duration(WRITE_REGISTER_ACK_TIMEOUT), wait, answer),
+            wait_step(WRITE_REGISTER_ACK_TIMEOUT, wait, answer),
         ),
     }
 }

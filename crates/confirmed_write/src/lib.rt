@@ -13,15 +13,15 @@ use registers::RegisterValue;
 use registers::value_bits;
 use want::Answer;
 use want::Failure;
-use want::Sending;
+use want::SendResult;
 use want::Want;
 use want::message::Message;
-use want::sending_of;
+use want::send_result;
 
 const WRITE_REGISTER_ACK_ATTEMPTS: u8 = 3;
 
 // In nanoseconds.
-const WRITE_REGISTER_ACK_RETRY_GAP: u64 = 20_000_000;
+const WRITE_REGISTER_ACK_RETRY_GAP: Duration = Duration(20_000_000);
 
 // Each with the number of tries after the one that it is in; a gap with that of the next one.
 pub enum Write {
@@ -48,16 +48,16 @@ pub fn write_want(rid: u8, value: RegisterValue, write: Write) -> Want
     match write {
         Write::Sending(_) => Want::Send(Message::WriteRegister(rid, value_bits(value))),
         Write::Waiting(_, ack) => ack_want(ack),
-        Write::Gap(_) => Want::Sleep(Duration(WRITE_REGISTER_ACK_RETRY_GAP)),
+        Write::Gap(_) => Want::Sleep(WRITE_REGISTER_ACK_RETRY_GAP),
     }
 }
 
-fn write_sent(after: u8, sending: Sending) -> WriteNext
+fn write_sent(after: u8, sending: SendResult) -> WriteNext
     ensures { λ r. ⌜ r ≡ Spec.write-sent after sending ⌝ }
 {
     match sending {
-        Sending::Sent => WriteNext::Goes(Write::Waiting(after, AckWait::Opening)),
-        Sending::Failed(failure) => WriteNext::Failed(failure),
+        SendResult::Sent => WriteNext::Goes(Write::Waiting(after, AckWait::Opening)),
+        SendResult::Failed(failure) => WriteNext::Failed(failure),
     }
 }
 
@@ -86,7 +86,7 @@ pub fn write_step(value: RegisterValue, entry: Entry, write: Write, answer: Answ
     ensures { λ r. ⌜ r ≡ Spec.write-step value entry write answer ⌝ }
 {
     match write {
-        Write::Sending(after) => write_sent(after, sending_of(answer)),
+        Write::Sending(after) => write_sent(after, send_result(answer)),
         Write::Waiting(after, ack) => write_waited(after, ack_step(value, entry, ack, answer)),
         Write::Gap(after) => WriteNext::Goes(Write::Sending(after)),
     }

@@ -5,10 +5,10 @@ use Rattle.motor_core.specs.Time.{millis}
 use Rattle.motor_core.specs.declared.time.Duration.{Duration}
 use Rattle.feedback.specs.declared.Latest.{Latest}
 use Rattle.feedback.specs.declared.MotorFeedbackState.{MotorFeedbackState}
-use Rattle.want.specs.Want.{sending-of}
+use Rattle.want.specs.Want.{send-result}
 use Rattle.want.specs.declared.Answer.{Answer}
-use Rattle.want.specs.declared.Sending.{Sending}
-use Rattle.want.specs.declared.Sending.the-variants as Went
+use Rattle.want.specs.declared.SendResult.{SendResult}
+use Rattle.want.specs.declared.SendResult.the-variants as SendResult
 use Rattle.want.specs.declared.Want.{Want}
 use Rattle.want.specs.declared.Want.the-variants.{Send, Sleep}
 use Rattle.want.specs.declared.message.Message.the-variants.{Disable, StoreParams}
@@ -43,14 +43,14 @@ store-asked State.NoState = Disabling
 store-asked (State.Failed failure) = Disabling
 
 -- a disable or a store frame that is not sent ends it
-abbrev pub store-sent : Store → Sending → StoreNext
-store-sent after Went.Sent = Goes after
-store-sent after (Went.Failed failure) = Failed failure
+abbrev pub store-sent : Store → SendResult → StoreNext
+store-sent after SendResult.Sent = Goes after
+store-sent after (SendResult.Failed failure) = Failed failure
 
 -- `store_parameters`, looking at the latest record
 abbrev pub store-step : Latest → Store → Answer → StoreNext
 store-step latest (Asking ask) answer = Goes (store-asked (state-step state-timeout latest ask answer))
-store-step latest Disabling answer = store-sent Disabled (sending-of answer)
+store-step latest Disabling answer = store-sent Disabled (send-result answer)
 store-step latest Disabled answer = Goes Storing
-store-step latest Storing answer = store-sent Stored (sending-of answer)
+store-step latest Storing answer = store-sent Stored (send-result answer)
 store-step latest Stored answer = Done

@@ -10,17 +10,17 @@ use motor_core::time::Duration;
 use wait::ask::Ask;
 use want::Answer;
 use want::Failure;
-use want::Sending;
+use want::SendResult;
 use want::Want;
 use want::message::Message;
-use want::sending_of;
+use want::send_result;
 
 // In nanoseconds.
-const STORE_PARAMS_STATE_TIMEOUT: u64 = 50_000_000;
+const STORE_PARAMS_STATE_TIMEOUT: Duration = Duration(50_000_000);
 
-const STORE_PARAMS_DISABLE_SETTLE: u64 = 20_000_000;
+const STORE_PARAMS_DISABLE_SETTLE: Duration = Duration(20_000_000);
 
-const STORE_PARAMS_SETTLE: u64 = 30_000_000;
+const STORE_PARAMS_SETTLE: Duration = Duration(30_000_000);
 
 // The request, the disable frame and the sleep after it, the store frame and the sleep after it.
 pub enum Store {
@@ -43,9 +43,9 @@ pub fn store_want(store: Store) -> Want
     match store {
         Store::Asking(ask) => state_want(ask),
         Store::Disabling => Want::Send(Message::Disable),
-        Store::Disabled => Want::Sleep(Duration(STORE_PARAMS_DISABLE_SETTLE)),
+        Store::Disabled => Want::Sleep(STORE_PARAMS_DISABLE_SETTLE),
         Store::Storing => Want::Send(Message::StoreParams),
-        Store::Stored => Want::Sleep(Duration(STORE_PARAMS_SETTLE)),
+        Store::Stored => Want::Sleep(STORE_PARAMS_SETTLE),
     }
 }
 
@@ -70,12 +70,12 @@ fn store_asked(next: StateNext) -> Store
     }
 }
 
-fn store_sent(after: Store, sending: Sending) -> StoreNext
+fn store_sent(after: Store, sending: SendResult) -> StoreNext
     ensures { λ r. ⌜ r ≡ Spec.store-sent after sending ⌝ }
 {
     match sending {
-        Sending::Sent => StoreNext::Goes(after),
-        Sending::Failed(failure) => StoreNext::Failed(failure),
+        SendResult::Sent => StoreNext::Goes(after),
+        SendResult::Failed(failure) => StoreNext::Failed(failure),
     }
 }
 
@@ -84,14 +84,14 @@ pub fn store_step(latest: Latest, store: Store, answer: Answer) -> StoreNext
 {
     match store {
         Store::Asking(ask) => StoreNext::Goes(store_asked(state_step(
-            Duration(STORE_PARAMS_STATE_TIMEOUT),
+            STORE_PARAMS_STATE_TIMEOUT,
             latest,
             ask,
             answer,
         ))),
-        Store::Disabling => store_sent(Store::Disabled, sending_of(answer)),
+        Store::Disabling => store_sent(Store::Disabled, send_result(answer)),
         Store::Disabled => StoreNext::Goes(Store::Storing),
-        Store::Storing => store_sent(Store::Stored, sending_of(answer)),
+        Store::Storing => store_sent(Store::Stored, send_result(answer)),
         Store::Stored => StoreNext::Done,
     }
 }

@@ -3,6 +3,7 @@ use Prim.Native.Nat.{ℕ, zero, suc, _+_, _≤_}
 use mathlib.Core.Path.{_≡_, refl}
 use mathlib.Core.Bool.{Bool, true, false, cond}
 use mathlib.Core.List.{List, [], _∷_}
+use mathlib.Core.Option.{Option, none, some}
 use native.Mathlib.Omega.{arith}
 use lib.Dec.{eqb}
 use Rattle.motor_core.specs.declared.time.Instant.{Instant}
@@ -15,12 +16,12 @@ use Rattle.feedback.specs.declared.Latest.the-variants as Latest
 use Rattle.feedback.specs.declared.MotorFeedbackState.{MotorFeedbackState}
 use Rattle.cache.specs.declared.Entry.{Entry}
 use Rattle.cache.specs.declared.Entry.the-variants.{Empty, Held}
-use Rattle.want.specs.Want.{reading-of, sending-of}
+use Rattle.want.specs.Want.{reading-of, send-result}
 use Rattle.want.specs.declared.Answer.{Answer}
 use Rattle.want.specs.declared.Failure.{Failure}
 use Rattle.want.specs.declared.Failure.the-variants.{Mismatch, WrongType}
-use Rattle.want.specs.declared.Sending.{Sending}
-use Rattle.want.specs.declared.Sending.the-variants as Went
+use Rattle.want.specs.declared.SendResult.{SendResult}
+use Rattle.want.specs.declared.SendResult.the-variants as SendResult
 use Rattle.want.specs.declared.message.Message.{Message}
 use Rattle.want.specs.declared.message.Message.the-variants.{ReadRegister, RequestFeedback}
 use Rattle.wait.specs.Ask.{ask-want, ask-sent, ask-waited, ask-step}
@@ -62,63 +63,65 @@ use Rattle.machine.specs.declared.Machine.{Machine}
 use Rattle.machine.specs.declared.Machine.the-variants.{GetRegister, WriteRegister, RequestFreshState, StoreParameters}
 use Rattle.machine.specs.declared.Next.{Next}
 use Rattle.machine.specs.declared.Next.the-variants.{Goes, Ends}
-use Rattle.run_laws.specs.Budget.{Budget, weigh, known-after, fine, ask-left, asked-left, read-left, state-left, disabling, store-left, stored-left, ack-left, acked-left, more-tries, write-left, written-left, machine-left, left, All-fine}
-use Rattle.run_laws.specs.Trace.{Turn, wants-from, total}
+use Rattle.run_laws.specs.Budget.{Budget, weigh, ask-left, asked-left, read-left, state-left, disabling, store-left, stored-left, ack-left, acked-left, more-tries, write-left, written-left, machine-left, left}
+use Rattle.run_laws.specs.Clock.{Clocked, known-after, fine, All-fine}
+use Rattle.run_laws.specs.Systems.{still, waiting, acking-on, acking, running-on, running}
+use Rattle.run_laws.specs.Trace.{Given, System, wants-from, total}
 
-module _ (β : Budget) where
+module _ {κ : Clocked} (β : Budget κ) where
   -- ---- the wait, by what comes of an answer
 
-  abbrev waited-left : Duration → β .Known → Waited → ℕ
+  abbrev waited-left : Duration → κ .Known → Waited → ℕ
   waited-left l k (Waited.Goes w) = β .wait-left l k w
   waited-left l k (Waited.Looks o) = β .wait-left l k (Checking o)
   waited-left l k Waited.Late = 0
 
-  pub wait-falls : (l : Duration) (k : β .Known) (w : Wait) (a : Answer) → fine β (wait-want w) a k → weigh β (wait-want w) + waited-left l (known-after β (wait-want w) a k) (wait-step l w a) ≤ β .wait-left l k w
+  pub wait-falls : (l : Duration) (k : κ .Known) (w : Wait) (a : Answer) → fine κ (wait-want w) a k → weigh β (wait-want w) + waited-left l (known-after κ (wait-want w) a k) (wait-step l w a) ≤ β .wait-left l k w
   wait-falls l k (Checking o) a f = go (late o l (reading-of a)) refl
     where
-      go : (b : Bool) → late o l (reading-of a) ≡ b → β .clock + waited-left l (β .hear (reading-of a)) (cond b Waited.Late (Waited.Goes (Napping o))) ≤ β .wait-left l k (Checking o)
+      go : (b : Bool) → late o l (reading-of a) ≡ b → β .clock + waited-left l (κ .hear (reading-of a)) (cond b Waited.Late (Waited.Goes (Napping o))) ≤ β .wait-left l k (Checking o)
       go true e = omega (arith, β .at-deadline l k o)
       go false e = β .before-deadline l k o (reading-of a) f e
   wait-falls l k (Napping o) a f = β .after-sleep l k o
 
-  wait-covers : (l : Duration) (k : β .Known) (w : Wait) → weigh β (wait-want w) ≤ β .wait-left l k w
+  wait-covers : (l : Duration) (k : κ .Known) (w : Wait) → weigh β (wait-want w) ≤ β .wait-left l k w
   wait-covers l k (Checking o) = β .at-deadline l k o
   wait-covers l k (Napping o) = omega (arith, β .after-sleep l k o)
 
   -- ---- asking
 
-  asked-waited : (m : Message) (l : Duration) (k : β .Known) (x : Waited) → asked-left β m l k (ask-waited x) ≡ waited-left l k x
+  asked-waited : (m : Message) (l : Duration) (k : κ .Known) (x : Waited) → asked-left β m l k (ask-waited x) ≡ waited-left l k x
   asked-waited m l k (Waited.Goes w) = refl
   asked-waited m l k (Waited.Looks o) = refl
   asked-waited m l k Waited.Late = refl
 
-  pub ask-falls : (m : Message) (l : Duration) (k : β .Known) (q : Ask) (a : Answer) → fine β (ask-want m q) a k → weigh β (ask-want m q) + asked-left β m l (known-after β (ask-want m q) a k) (ask-step l q a) ≤ ask-left β m l k q
+  pub ask-falls : (m : Message) (l : Duration) (k : κ .Known) (q : Ask) (a : Answer) → fine κ (ask-want m q) a k → weigh β (ask-want m q) + asked-left β m l (known-after κ (ask-want m q) a k) (ask-step l q a) ≤ ask-left β m l k q
   ask-falls m l k Ask.Opening a f = omega (arith, β .opens l (reading-of a))
-  ask-falls m l k (Ask.Sending o) a f = go (sending-of a)
+  ask-falls m l k (Ask.Sending o) a f = go (send-result a)
     where
-      go : (x : Sending) → β .send m + asked-left β m l k (ask-sent o x) ≤ β .send m + β .wait-left l k (Checking o)
-      go Went.Sent = omega arith
-      go (Went.Failed failure) = omega arith
-  ask-falls m l k (Ask.Waiting w) a f = omega (arith, wait-falls l k w a f, asked-waited m l (known-after β (wait-want w) a k) (wait-step l w a))
+      go : (x : SendResult) → β .send m + asked-left β m l k (ask-sent o x) ≤ β .send m + β .wait-left l k (Checking o)
+      go SendResult.Sent = omega arith
+      go (SendResult.Failed failure) = omega arith
+  ask-falls m l k (Ask.Waiting w) a f = omega (arith, wait-falls l k w a f, asked-waited m l (known-after κ (wait-want w) a k) (wait-step l w a))
 
-  ask-covers : (m : Message) (l : Duration) (k : β .Known) (q : Ask) → weigh β (ask-want m q) ≤ ask-left β m l k q
+  ask-covers : (m : Message) (l : Duration) (k : κ .Known) (q : Ask) → weigh β (ask-want m q) ≤ ask-left β m l k q
   ask-covers m l k Ask.Opening = omega arith
   ask-covers m l k (Ask.Sending o) = omega arith
   ask-covers m l k (Ask.Waiting w) = wait-covers l k w
 
   -- ---- the register read
 
-  read-found : (rid : ℕ) (l : Duration) (k : β .Known) (o : Instant) (e : Entry) → read-left β rid l k (found o e) ≤ β .wait-left l k (Checking o)
+  read-found : (rid : ℕ) (l : Duration) (k : κ .Known) (o : Instant) (e : Entry) → read-left β rid l k (found o e) ≤ β .wait-left l k (Checking o)
   read-found rid l k o Empty = omega arith
   read-found rid l k o (Held value stamp) = omega arith
 
-  read-by-left : (rid : ℕ) (l : Duration) (k : β .Known) (e : Entry) (x : Asked) → read-left β rid l k (read-by e x) ≤ asked-left β (ReadRegister rid) l k x
+  read-by-left : (rid : ℕ) (l : Duration) (k : κ .Known) (e : Entry) (x : Asked) → read-left β rid l k (read-by e x) ≤ asked-left β (ReadRegister rid) l k x
   read-by-left rid l k e (Asked.Goes q) = omega arith
   read-by-left rid l k e (Asked.Looks o) = read-found rid l k o (fresh-entry o e)
   read-by-left rid l k e Asked.Late = omega arith
   read-by-left rid l k e (Asked.Failed failure) = omega arith
 
-  get-by-left : (t : RegisterDataType) (rid : ℕ) (l : Duration) (k : β .Known) (x : ReadNext) → read-left β rid l k (get-by t x) ≤ read-left β rid l k x
+  get-by-left : (t : RegisterDataType) (rid : ℕ) (l : Duration) (k : κ .Known) (x : ReadNext) → read-left β rid l k (get-by t x) ≤ read-left β rid l k x
   get-by-left t rid l k (Read.Goes q) = omega arith
   get-by-left t rid l k (Read.Got value) = go (of-type value t)
     where
@@ -127,56 +130,56 @@ module _ (β : Budget) where
       go false = omega arith
   get-by-left t rid l k (Read.Failed failure) = omega arith
 
-  pub get-falls : (t : RegisterDataType) (rid : ℕ) (l : Duration) (k : β .Known) (e : Entry) (q : Ask) (a : Answer) → fine β (ask-want (ReadRegister rid) q) a k → weigh β (ask-want (ReadRegister rid) q) + read-left β rid l (known-after β (ask-want (ReadRegister rid) q) a k) (get-step t l e q a) ≤ ask-left β (ReadRegister rid) l k q
+  pub get-falls : (t : RegisterDataType) (rid : ℕ) (l : Duration) (k : κ .Known) (e : Entry) (q : Ask) (a : Answer) → fine κ (ask-want (ReadRegister rid) q) a k → weigh β (ask-want (ReadRegister rid) q) + read-left β rid l (known-after κ (ask-want (ReadRegister rid) q) a k) (get-step t l e q a) ≤ ask-left β (ReadRegister rid) l k q
   get-falls t rid l k e q a f =
-      let k′ = known-after β (ask-want (ReadRegister rid) q) a k in
+      let k′ = known-after κ (ask-want (ReadRegister rid) q) a k in
       omega (arith, ask-falls (ReadRegister rid) l k q a f, read-by-left rid l k′ e (ask-step l q a), get-by-left t rid l k′ (read-by e (ask-step l q a)))
 
   -- ---- the fresh-state request
 
-  state-found : (l : Duration) (k : β .Known) (o : Instant) (x : Latest) → state-left β l k (StateSpec.found o x) ≤ β .wait-left l k (Checking o)
+  state-found : (l : Duration) (k : κ .Known) (o : Instant) (x : Latest) → state-left β l k (StateSpec.found o x) ≤ β .wait-left l k (Checking o)
   state-found l k o Latest.None = omega arith
   state-found l k o (Latest.Snapshot s) = omega arith
 
-  state-by-left : (l : Duration) (k : β .Known) (latest : Latest) (x : Asked) → state-left β l k (state-by latest x) ≤ asked-left β RequestFeedback l k x
+  state-by-left : (l : Duration) (k : κ .Known) (latest : Latest) (x : Asked) → state-left β l k (state-by latest x) ≤ asked-left β RequestFeedback l k x
   state-by-left l k latest (Asked.Goes q) = omega arith
   state-by-left l k latest (Asked.Looks o) = state-found l k o (fresh-record o latest)
   state-by-left l k latest Asked.Late = omega arith
   state-by-left l k latest (Asked.Failed failure) = omega arith
 
-  pub state-falls : (l : Duration) (k : β .Known) (latest : Latest) (q : Ask) (a : Answer) → fine β (ask-want RequestFeedback q) a k → weigh β (ask-want RequestFeedback q) + state-left β l (known-after β (ask-want RequestFeedback q) a k) (state-step l latest q a) ≤ ask-left β RequestFeedback l k q
+  pub state-falls : (l : Duration) (k : κ .Known) (latest : Latest) (q : Ask) (a : Answer) → fine κ (ask-want RequestFeedback q) a k → weigh β (ask-want RequestFeedback q) + state-left β l (known-after κ (ask-want RequestFeedback q) a k) (state-step l latest q a) ≤ ask-left β RequestFeedback l k q
   state-falls l k latest q a f =
-      omega (arith, ask-falls RequestFeedback l k q a f, state-by-left l (known-after β (ask-want RequestFeedback q) a k) latest (ask-step l q a))
+      omega (arith, ask-falls RequestFeedback l k q a f, state-by-left l (known-after κ (ask-want RequestFeedback q) a k) latest (ask-step l q a))
 
   -- ---- storing
 
-  status-left : (k : β .Known) (s : MotorFeedbackState) → store-left β k (by-status s) ≤ disabling β
+  status-left : (k : κ .Known) (s : MotorFeedbackState) → store-left β k (by-status s) ≤ disabling β
   status-left k s = go (eqb (s .«status_code») 0)
     where
       go : (b : Bool) → store-left β k (cond b Store.Storing Store.Disabling) ≤ disabling β
       go true = omega arith
       go false = omega arith
 
-  store-asked-left : (k : β .Known) (x : StateNext) → store-left β k (store-asked x) ≤ state-left β state-timeout k x + disabling β
+  store-asked-left : (k : κ .Known) (x : StateNext) → store-left β k (store-asked x) ≤ state-left β state-timeout k x + disabling β
   store-asked-left k (State.Goes q) = omega arith
   store-asked-left k (State.Got s) = omega (arith, status-left k s)
   store-asked-left k State.NoState = omega arith
   store-asked-left k (State.Failed failure) = omega arith
 
-  store-sent-left : (k : β .Known) (after : Store) (x : Sending) → stored-left β k (store-sent after x) ≤ store-left β k after
-  store-sent-left k after Went.Sent = omega arith
-  store-sent-left k after (Went.Failed failure) = omega arith
+  store-sent-left : (k : κ .Known) (after : Store) (x : SendResult) → stored-left β k (store-sent after x) ≤ store-left β k after
+  store-sent-left k after SendResult.Sent = omega arith
+  store-sent-left k after (SendResult.Failed failure) = omega arith
 
-  pub store-falls : (k : β .Known) (latest : Latest) (s : Store) (a : Answer) → fine β (store-want s) a k → weigh β (store-want s) + stored-left β (known-after β (store-want s) a k) (store-step latest s a) ≤ store-left β k s
+  pub store-falls : (k : κ .Known) (latest : Latest) (s : Store) (a : Answer) → fine κ (store-want s) a k → weigh β (store-want s) + stored-left β (known-after κ (store-want s) a k) (store-step latest s a) ≤ store-left β k s
   store-falls k latest (Store.Asking q) a f =
-      let k′ = known-after β (ask-want RequestFeedback q) a k in
+      let k′ = known-after κ (ask-want RequestFeedback q) a k in
       omega (arith, state-falls state-timeout k latest q a f, store-asked-left k′ (state-step state-timeout latest q a))
-  store-falls k latest Store.Disabling a f = omega (arith, store-sent-left k Store.Disabled (sending-of a))
+  store-falls k latest Store.Disabling a f = omega (arith, store-sent-left k Store.Disabled (send-result a))
   store-falls k latest Store.Disabled a f = omega arith
-  store-falls k latest Store.Storing a f = omega (arith, store-sent-left k Store.Stored (sending-of a))
+  store-falls k latest Store.Storing a f = omega (arith, store-sent-left k Store.Stored (send-result a))
   store-falls k latest Store.Stored a f = omega arith
 
-  store-covers : (k : β .Known) (s : Store) → weigh β (store-want s) ≤ store-left β k s
+  store-covers : (k : κ .Known) (s : Store) → weigh β (store-want s) ≤ store-left β k s
   store-covers k (Store.Asking q) = omega (arith, ask-covers RequestFeedback state-timeout k q)
   store-covers k Store.Disabling = omega arith
   store-covers k Store.Disabled = omega arith
@@ -185,7 +188,7 @@ module _ (β : Budget) where
 
   -- ---- the confirmed write
 
-  ack-found : (k : β .Known) (o : Instant) (v : RegisterValue) (e : Entry) → acked-left β k (AckSpec.found o v e) ≤ β .wait-left ack-timeout k (Checking o)
+  ack-found : (k : κ .Known) (o : Instant) (v : RegisterValue) (e : Entry) → acked-left β k (AckSpec.found o v e) ≤ β .wait-left ack-timeout k (Checking o)
   ack-found k o v Empty = omega arith
   ack-found k o v (Held got stamp) = go (same-value got v)
     where
@@ -193,89 +196,145 @@ module _ (β : Budget) where
       go true = omega arith
       go false = omega arith
 
-  ack-waited-left : (k : β .Known) (v : RegisterValue) (e : Entry) (x : Waited) → acked-left β k (ack-waited v e x) ≤ waited-left ack-timeout k x
+  ack-waited-left : (k : κ .Known) (v : RegisterValue) (e : Entry) (x : Waited) → acked-left β k (ack-waited v e x) ≤ waited-left ack-timeout k x
   ack-waited-left k v e (Waited.Goes w) = omega arith
   ack-waited-left k v e (Waited.Looks o) = ack-found k o v (fresh-entry o e)
   ack-waited-left k v e Waited.Late = omega arith
 
-  pub ack-falls : (k : β .Known) (v : RegisterValue) (e : Entry) (q : AckWait) (a : Answer) → fine β (ack-want q) a k → weigh β (ack-want q) + acked-left β (known-after β (ack-want q) a k) (ack-step v e q a) ≤ ack-left β k q
+  pub ack-falls : (k : κ .Known) (v : RegisterValue) (e : Entry) (q : AckWait) (a : Answer) → fine κ (ack-want q) a k → weigh β (ack-want q) + acked-left β (known-after κ (ack-want q) a k) (ack-step v e q a) ≤ ack-left β k q
   ack-falls k v e AckWait.Opening a f =
       let t = reading-of a in
-      omega (arith, ack-found (β .hear t) t v (fresh-entry t e), β .opens ack-timeout t)
+      omega (arith, ack-found (κ .hear t) t v (fresh-entry t e), β .opens ack-timeout t)
   ack-falls k v e (AckWait.Waiting w) a f =
-      omega (arith, wait-falls ack-timeout k w a f, ack-waited-left (known-after β (wait-want w) a k) v e (wait-step ack-timeout w a))
+      omega (arith, wait-falls ack-timeout k w a f, ack-waited-left (known-after κ (wait-want w) a k) v e (wait-step ack-timeout w a))
 
-  again-left : (rid : ℕ) (v : RegisterValue) (k : β .Known) (n : ℕ) (failure : Failure) → written-left β rid v k (again n failure) ≤ more-tries β rid v n
+  ack-covers : (k : κ .Known) (q : AckWait) → weigh β (ack-want q) ≤ ack-left β k q
+  ack-covers k AckWait.Opening = omega arith
+  ack-covers k (AckWait.Waiting w) = wait-covers ack-timeout k w
+
+  again-left : (rid : ℕ) (v : RegisterValue) (k : κ .Known) (n : ℕ) (failure : Failure) → written-left β rid v k (again n failure) ≤ more-tries β rid v n
   unfolding more-tries
   again-left rid v k zero failure = omega arith
   again-left rid v k (suc n) failure = omega arith
 
-  write-waited-left : (rid : ℕ) (v : RegisterValue) (k : β .Known) (n : ℕ) (x : AckNext) → written-left β rid v k (write-waited n x) ≤ acked-left β k x + more-tries β rid v n
+  write-waited-left : (rid : ℕ) (v : RegisterValue) (k : κ .Known) (n : ℕ) (x : AckNext) → written-left β rid v k (write-waited n x) ≤ acked-left β k x + more-tries β rid v n
   write-waited-left rid v k n (Ack.Goes q) = omega arith
   write-waited-left rid v k n Ack.Acked = omega arith
   write-waited-left rid v k n (Ack.Failed failure) = omega (arith, again-left rid v k n failure)
 
-  write-sent-left : (rid : ℕ) (v : RegisterValue) (k : β .Known) (n : ℕ) (x : Sending) → written-left β rid v k (write-sent n x) ≤ β .clock + β .opened ack-timeout + more-tries β rid v n
-  write-sent-left rid v k n Went.Sent = omega arith
-  write-sent-left rid v k n (Went.Failed failure) = omega arith
+  write-sent-left : (rid : ℕ) (v : RegisterValue) (k : κ .Known) (n : ℕ) (x : SendResult) → written-left β rid v k (write-sent n x) ≤ β .clock + β .opened ack-timeout + more-tries β rid v n
+  write-sent-left rid v k n SendResult.Sent = omega arith
+  write-sent-left rid v k n (SendResult.Failed failure) = omega arith
 
-  pub write-falls : (rid : ℕ) (v : RegisterValue) (k : β .Known) (e : Entry) (w : Write) (a : Answer) → fine β (write-want rid v w) a k → weigh β (write-want rid v w) + written-left β rid v (known-after β (write-want rid v w) a k) (write-step v e w a) ≤ write-left β rid v k w
-  write-falls rid v k e (Write.Sending n) a f = omega (arith, write-sent-left rid v k n (sending-of a))
+  pub write-falls : (rid : ℕ) (v : RegisterValue) (k : κ .Known) (e : Entry) (w : Write) (a : Answer) → fine κ (write-want rid v w) a k → weigh β (write-want rid v w) + written-left β rid v (known-after κ (write-want rid v w) a k) (write-step v e w a) ≤ write-left β rid v k w
+  write-falls rid v k e (Write.Sending n) a f = omega (arith, write-sent-left rid v k n (send-result a))
   write-falls rid v k e (Write.Waiting n q) a f =
-      omega (arith, ack-falls k v e q a f, write-waited-left rid v (known-after β (ack-want q) a k) n (ack-step v e q a))
+      omega (arith, ack-falls k v e q a f, write-waited-left rid v (known-after κ (ack-want q) a k) n (ack-step v e q a))
   write-falls rid v k e (Write.Gap n) a f = omega arith
 
-  write-covers : (rid : ℕ) (v : RegisterValue) (k : β .Known) (w : Write) → weigh β (write-want rid v w) ≤ write-left β rid v k w
+  write-covers : (rid : ℕ) (v : RegisterValue) (k : κ .Known) (w : Write) → weigh β (write-want rid v w) ≤ write-left β rid v k w
   write-covers rid v k (Write.Sending n) = omega arith
-  write-covers rid v k (Write.Waiting n AckWait.Opening) = omega arith
-  write-covers rid v k (Write.Waiting n (AckWait.Waiting w)) = omega (arith, wait-covers ack-timeout k w)
+  write-covers rid v k (Write.Waiting n q) = omega (arith, ack-covers k q)
   write-covers rid v k (Write.Gap n) = omega arith
 
   -- ---- a run's machine
 
-  after-read-left : (t : RegisterDataType) (rid : ℕ) (l : Duration) (k : β .Known) (x : ReadNext) → left β k (after-read t rid l x) ≡ read-left β rid l k x
+  after-read-left : (t : RegisterDataType) (rid : ℕ) (l : Duration) (k : κ .Known) (x : ReadNext) → left β k (after-read t rid l x) ≡ read-left β rid l k x
   after-read-left t rid l k (Read.Goes q) = refl
   after-read-left t rid l k (Read.Got value) = refl
   after-read-left t rid l k (Read.Failed failure) = refl
 
-  after-write-left : (rid : ℕ) (v : RegisterValue) (k : β .Known) (x : WriteNext) → left β k (after-write rid v x) ≡ written-left β rid v k x
+  after-write-left : (rid : ℕ) (v : RegisterValue) (k : κ .Known) (x : WriteNext) → left β k (after-write rid v x) ≡ written-left β rid v k x
   after-write-left rid v k (Written.Goes w) = refl
   after-write-left rid v k Written.Written = refl
   after-write-left rid v k (Written.Failed failure) = refl
 
-  after-state-left : (l : Duration) (k : β .Known) (x : StateNext) → left β k (after-state l x) ≡ state-left β l k x
+  after-state-left : (l : Duration) (k : κ .Known) (x : StateNext) → left β k (after-state l x) ≡ state-left β l k x
   after-state-left l k (State.Goes q) = refl
   after-state-left l k (State.Got s) = refl
   after-state-left l k State.NoState = refl
   after-state-left l k (State.Failed failure) = refl
 
-  after-store-left : (k : β .Known) (x : StoreNext) → left β k (after-store x) ≡ stored-left β k x
+  after-store-left : (k : κ .Known) (x : StoreNext) → left β k (after-store x) ≡ stored-left β k x
   after-store-left k (Stored.Goes s) = refl
   after-store-left k Stored.Done = refl
   after-store-left k (Stored.Failed failure) = refl
 
-  pub falls : (k : β .Known) (latest : Latest) (e : Entry) (m : Machine) (a : Answer) → fine β (machine-want m) a k → weigh β (machine-want m) + left β (known-after β (machine-want m) a k) (machine-step latest e m a) ≤ machine-left β k m
+  pub falls : (k : κ .Known) (latest : Latest) (e : Entry) (m : Machine) (a : Answer) → fine κ (machine-want m) a k → weigh β (machine-want m) + left β (known-after κ (machine-want m) a k) (machine-step latest e m a) ≤ machine-left β k m
   falls k latest e (GetRegister t rid l q) a f =
-      omega (arith, get-falls t rid l k e q a f, after-read-left t rid l (known-after β (ask-want (ReadRegister rid) q) a k) (get-step t l e q a))
+      omega (arith, get-falls t rid l k e q a f, after-read-left t rid l (known-after κ (ask-want (ReadRegister rid) q) a k) (get-step t l e q a))
   falls k latest e (WriteRegister rid v w) a f =
-      omega (arith, write-falls rid v k e w a f, after-write-left rid v (known-after β (write-want rid v w) a k) (write-step v e w a))
+      omega (arith, write-falls rid v k e w a f, after-write-left rid v (known-after κ (write-want rid v w) a k) (write-step v e w a))
   falls k latest e (RequestFreshState l q) a f =
-      omega (arith, state-falls l k latest q a f, after-state-left l (known-after β (ask-want RequestFeedback q) a k) (state-step l latest q a))
+      omega (arith, state-falls l k latest q a f, after-state-left l (known-after κ (ask-want RequestFeedback q) a k) (state-step l latest q a))
   falls k latest e (StoreParameters s) a f =
-      omega (arith, store-falls k latest s a f, after-store-left (known-after β (store-want s) a k) (store-step latest s a))
+      omega (arith, store-falls k latest s a f, after-store-left (known-after κ (store-want s) a k) (store-step latest s a))
 
-  pub covers : (k : β .Known) (m : Machine) → weigh β (machine-want m) ≤ machine-left β k m
+  pub covers : (k : κ .Known) (m : Machine) → weigh β (machine-want m) ≤ machine-left β k m
   covers k (GetRegister t rid l q) = ask-covers (ReadRegister rid) l k q
   covers k (WriteRegister rid v w) = write-covers rid v k w
   covers k (RequestFreshState l q) = ask-covers RequestFeedback l k q
   covers k (StoreParameters s) = store-covers k s
 
-  -- ---- a whole run
+  -- ---- any machine, over a list of answers
 
-  pub bounded : (ts : List Turn) (k : β .Known) (n : Next) → All-fine β ts k n → total (weigh β) (wants-from ts n) ≤ left β k n
-  unfolding wants-from total All-fine
-  bounded [] k (Ends r) f = omega arith
-  bounded [] k (Goes m) f = omega (arith, covers k m)
-  bounded (t ∷ ts) k (Ends r) f = omega arith
-  bounded (t ∷ ts) k (Goes m) f =
-      omega (arith, falls k (t .latest) (t .entry) m (t .answer) (f .0), bounded ts (known-after β (machine-want m) (t .answer) k) (machine-step (t .latest) (t .entry) m (t .answer)) (f .1))
+  abbrev pub option-left : {A : Type 0} → (κ .Known → A → ℕ) → κ .Known → Option A → ℕ
+  option-left left-at k none = 0
+  option-left left-at k (some m) = left-at k m
+
+  module _ (σ : System) (left-at : κ .Known → σ .At → ℕ) where
+    pub bounded : ((k : κ .Known) (g : Given) (m : σ .At) → fine κ (σ .want m) (g .answer) k → weigh β (σ .want m) + option-left left-at (known-after κ (σ .want m) (g .answer) k) (σ .next g m) ≤ left-at k m)
+        → ((k : κ .Known) (m : σ .At) → weigh β (σ .want m) ≤ left-at k m)
+        → (gs : List Given) (k : κ .Known) (at : Option (σ .At)) → All-fine κ σ gs k at → total (weigh β) (wants-from σ gs at) ≤ option-left left-at k at
+    unfolding wants-from total All-fine
+    bounded down up [] k none f = omega arith
+    bounded down up [] k (some m) f = omega (arith, up k m)
+    bounded down up (g ∷ gs) k none f = omega arith
+    bounded down up (g ∷ gs) k (some m) f = omega (arith, down k g m (f .0), bounded down up gs (known-after κ (σ .want m) (g .answer) k) (σ .next g m) (f .1))
+
+  -- ---- a wait, an ack wait, and a run by themselves
+
+  still-left : (l : Duration) (k : κ .Known) (find : Instant → Bool) (x : Waited) → option-left (β .wait-left l) k (still find x) ≤ waited-left l k x
+  still-left l k find (Waited.Goes w) = omega arith
+  still-left l k find (Waited.Looks o) = go (find o)
+    where
+      go : (b : Bool) → option-left (β .wait-left l) k (cond b none (some (Checking o))) ≤ β .wait-left l k (Checking o)
+      go true = omega arith
+      go false = omega arith
+  still-left l k find Waited.Late = omega arith
+
+  pub wait-bounded : (l : Duration) (finds : Given → Instant → Bool) (gs : List Given) (k : κ .Known) (w : Wait) → All-fine κ (waiting l finds) gs k (some w) → total (weigh β) (wants-from (waiting l finds) gs (some w)) ≤ β .wait-left l k w
+  wait-bounded l finds gs k w =
+      bounded (waiting l finds) (β .wait-left l)
+      (λ k g w f. omega (arith, wait-falls l k w (g .answer) f, still-left l (known-after κ (wait-want w) (g .answer) k) (finds g) (wait-step l w (g .answer))))
+      (wait-covers l)
+      gs
+      k
+      (some w)
+
+  acked-option : (k : κ .Known) (x : AckNext) → option-left (ack-left β) k (acking-on x) ≡ acked-left β k x
+  acked-option k (Ack.Goes q) = refl
+  acked-option k Ack.Acked = refl
+  acked-option k (Ack.Failed failure) = refl
+
+  pub ack-bounded : (v : RegisterValue) (gs : List Given) (k : κ .Known) (q : AckWait) → All-fine κ (acking v) gs k (some q) → total (weigh β) (wants-from (acking v) gs (some q)) ≤ ack-left β k q
+  ack-bounded v gs k q =
+      bounded (acking v) (ack-left β)
+      (λ k g q f. omega (arith, ack-falls k v (g .entry) q (g .answer) f, acked-option (known-after κ (ack-want q) (g .answer) k) (ack-step v (g .entry) q (g .answer))))
+      ack-covers
+      gs
+      k
+      (some q)
+
+  next-option : (k : κ .Known) (x : Next) → option-left (machine-left β) k (running-on x) ≡ left β k x
+  next-option k (Goes m) = refl
+  next-option k (Ends r) = refl
+
+  pub run-bounded : (gs : List Given) (k : κ .Known) (m : Machine) → All-fine κ running gs k (some m) → total (weigh β) (wants-from running gs (some m)) ≤ machine-left β k m
+  run-bounded gs k m =
+      bounded running (machine-left β)
+      (λ k g m f. omega (arith, falls k (g .latest) (g .entry) m (g .answer) f, next-option (known-after κ (machine-want m) (g .answer) k) (machine-step (g .latest) (g .entry) m (g .answer))))
+      covers
+      gs
+      k
+      (some m)

@@ -1,8 +1,9 @@
 -- Two ways of weighing: messages alone, whatever the clock does; and every want, where each sleep moves the clock on. Assumes nothing.
 use Prim.Native.Nat.{ℕ, _+_, _-_, _*_, _≤_, _<_, max}
-use mathlib.Core.Path.{_≡_, refl, subst}
+use mathlib.Core.Path.{_≡_, refl, sym, subst}
 use mathlib.Core.Bool.{false}
 use mathlib.Core.List.{List, [], _∷_}
+use mathlib.Core.Option.{Option, none, some}
 use native.Mathlib.Nat.{mul-le-mul-left}
 use native.Mathlib.Omega.{arith}
 use borrow.Author.Tests.{leb-false}
@@ -15,25 +16,20 @@ use Rattle.want.specs.declared.message.Message.{Message}
 use Rattle.wait.specs.Wait.{late, poll-interval}
 use Rattle.wait.specs.declared.Wait.{Wait}
 use Rattle.wait.specs.declared.Wait.the-variants.{Checking, Napping}
-use Rattle.machine.specs.Machine.{machine-want, machine-step}
-use Rattle.machine.specs.declared.Next.{Next}
-use Rattle.machine.specs.declared.Next.the-variants.{Goes, Ends}
-use Rattle.run_laws.specs.Budget.{Budget, known-after, fine, left, All-fine}
-use Rattle.run_laws.specs.Clock.{Clock, heard, slept, clock-after, no-less, Moving, polls}
-use Rattle.run_laws.specs.Trace.{Turn, counted, wants-from, total}
-use Rattle.run_laws.proofs.Budget.{bounded}
+use Rattle.run_laws.specs.Budget.{Budget}
+use Rattle.run_laws.specs.Clock.{Clocked, known-after, fine, All-fine, Clock, heard, slept, moving, polls}
+use Rattle.run_laws.specs.Trace.{Given, System}
 
 -- ---- messages alone
 
-abbrev pub by-message : (Message → ℕ) → Budget
+abbrev pub unclocked : Clocked
+unclocked = record { Known = Unit {0}; hear = λ t. tt; nap = λ d k. tt; Fine = λ k t. Unit {0} }
+
+abbrev pub by-message : (Message → ℕ) → Budget unclocked
 by-message weight = record {
   clock = 0;
   send = weight;
   sleep = 0;
-  Known = Unit {0};
-  hear = λ t. tt;
-  nap = λ d k. tt;
-  Fine = λ k t. Unit {0};
   wait-left = λ l k w. 0;
   opened = λ l. 0;
   opens = λ l o. omega arith;
@@ -42,20 +38,21 @@ by-message weight = record {
   after-sleep = λ l k o. omega arith;
 }
 
-module _ (weight : Message → ℕ) where
-  one-fine : (w : Want) (a : Answer) → fine (by-message weight) w a tt
-  one-fine Want.Clock a = tt
-  one-fine (Want.Send message) a = tt
-  one-fine (Want.Sleep length) a = tt
+one-fine : (w : Want) (a : Answer) → fine unclocked w a tt
+one-fine Want.Clock a = tt
+one-fine (Want.Send message) a = tt
+one-fine (Want.Sleep length) a = tt
 
-  all-fine : (ts : List Turn) (n : Next) → All-fine (by-message weight) ts tt n
-  unfolding All-fine
-  all-fine [] n = tt
-  all-fine (t ∷ ts) (Ends r) = tt
-  all-fine (t ∷ ts) (Goes m) = (one-fine (machine-want m) (t .answer), all-fine ts (machine-step (t .latest) (t .entry) m (t .answer)))
+known-nothing : (w : Want) (a : Answer) → known-after unclocked w a tt ≡ tt
+known-nothing Want.Clock a = refl
+known-nothing (Want.Send message) a = refl
+known-nothing (Want.Sleep length) a = refl
 
-  pub messages : (ts : List Turn) (n : Next) → total (counted 0 weight 0) (wants-from ts n) ≤ left (by-message weight) tt n
-  messages ts n = bounded (by-message weight) ts tt n (all-fine ts n)
+pub all-fine : (σ : System) (gs : List Given) (at : Option (σ .At)) → All-fine unclocked σ gs tt at
+unfolding All-fine
+all-fine σ [] at = tt
+all-fine σ (g ∷ gs) none = tt
+all-fine σ (g ∷ gs) (some m) = (one-fine (σ .want m) (g .answer), subst (λ (k : Unit {0}). All-fine unclocked σ gs k (σ .next g m)) (sym (known-nothing (σ .want m) (g .answer))) (all-fine σ gs (σ .next g m)))
 
 -- ---- every want, by the time that is left
 
@@ -81,15 +78,11 @@ module _ (c s : ℕ) where
   timed-opens l o = omega (arith, mul-le-mul-left (c + s) (polls-grow (o .0 + l .0 - o .0) (l .0) (omega arith)))
 
   module _ (weight : Message → ℕ) where
-    abbrev pub by-clock : Budget
+    abbrev pub by-clock : Budget moving
     by-clock = record {
       clock = c;
       send = weight;
       sleep = s;
-      Known = Clock;
-      hear = heard;
-      nap = slept;
-      Fine = λ k t. k .least ≤ t .0;
       wait-left = timed;
       opened = λ l. c + (c + s) * polls (l .0);
       opens = timed-opens;
@@ -97,25 +90,3 @@ module _ (c s : ℕ) where
       before-deadline = timed-nap;
       after-sleep = timed-slept;
     }
-
-    moved-fine : (w : Want) (a : Answer) (k : Clock) → no-less w a k → fine by-clock w a k
-    moved-fine Want.Clock a k h = h
-    moved-fine (Want.Send message) a k h = tt
-    moved-fine (Want.Sleep length) a k h = tt
-
-    same-clock : (w : Want) (a : Answer) (k : Clock) → clock-after w a k ≡ known-after by-clock w a k
-    same-clock Want.Clock a k = refl
-    same-clock (Want.Send message) a k = refl
-    same-clock (Want.Sleep length) a k = refl
-
-    moving-fine : (ts : List Turn) (k : Clock) (n : Next) → Moving ts k n → All-fine by-clock ts k n
-    unfolding Moving All-fine
-    moving-fine [] k n h = tt
-    moving-fine (t ∷ ts) k (Ends r) h = tt
-    moving-fine (t ∷ ts) k (Goes m) h = (
-      moved-fine (machine-want m) (t .answer) k (h .0),
-      subst (λ (x : Clock). All-fine by-clock ts x (machine-step (t .latest) (t .entry) m (t .answer))) (same-clock (machine-want m) (t .answer) k) (moving-fine ts (clock-after (machine-want m) (t .answer) k) (machine-step (t .latest) (t .entry) m (t .answer)) (h .1)),
-    )
-
-    pub all-wants : (ts : List Turn) (k : Clock) (n : Next) → Moving ts k n → total (counted c weight s) (wants-from ts n) ≤ left by-clock k n
-    all-wants ts k n h = bounded by-clock ts k n (moving-fine ts k n h)

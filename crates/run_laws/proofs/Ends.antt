@@ -1,5 +1,5 @@
--- A wait that has ended found a fresh entry, or saw the deadline pass. Assumes nothing.
-use Prim.Native.Nat.{_≤_}
+-- What a wait saw where it ends: something fresh, or its deadline. Assumes nothing.
+use Prim.Native.Nat.{ℕ, zero, suc, _≤_}
 use mathlib.Core.Path.{_≡_, refl, sym, subst}
 use mathlib.Core.Bool.{Bool, true, false, cond}
 use mathlib.Core.Logic.{inl, inr}
@@ -8,33 +8,40 @@ use borrow.Author.Tests.{leb-true}
 use lib.Dec.{leb}
 use Rattle.motor_core.specs.declared.time.Instant.{Instant}
 use Rattle.motor_core.specs.declared.time.Duration.{Duration}
-use Rattle.registers.specs.Value.{same-value}
+use Rattle.registers.specs.Value.{same-value, of-type}
+use Rattle.registers.specs.declared.RegisterDataType.{RegisterDataType}
 use Rattle.registers.specs.declared.RegisterValue.{RegisterValue}
 use Rattle.feedback.specs.declared.Latest.{Latest}
 use Rattle.feedback.specs.declared.Latest.the-variants.{None, Snapshot}
 use Rattle.cache.specs.declared.Entry.{Entry}
 use Rattle.cache.specs.declared.Entry.the-variants.{Empty, Held}
-use Rattle.want.specs.Want.{reading-of, sending-of}
+use Rattle.want.specs.Want.{reading-of, send-result}
 use Rattle.want.specs.declared.Answer.{Answer}
-use Rattle.want.specs.declared.Failure.the-variants.{Mismatch}
-use Rattle.want.specs.declared.Sending.{Sending}
-use Rattle.want.specs.declared.Sending.the-variants as Went
+use Rattle.want.specs.declared.Failure.the-variants.{Mismatch, WrongType}
+use Rattle.want.specs.declared.SendResult.{SendResult}
+use Rattle.want.specs.declared.SendResult.the-variants as SendResult
 use Rattle.wait.specs.Ask.{ask-sent, ask-waited}
 use Rattle.wait.specs.Look.{fresh-entry, fresh-record}
 use Rattle.wait.specs.Wait.{late}
 use Rattle.wait.specs.declared.Wait.the-variants.{Checking, Napping}
 use Rattle.wait.specs.declared.Waited.the-variants as Waited
 use Rattle.wait.specs.declared.ask.Ask.{Ask}
-use Rattle.wait.specs.declared.ask.Ask.the-variants.{Opening, Sending as Asking, Waiting}
-use Rattle.register_read.specs.Read.{found, read-by, read-step}
+use Rattle.wait.specs.declared.ask.Ask.the-variants.{Opening, Sending, Waiting}
+use Rattle.register_read.specs.Read.{found, read-by, read-step, get-by, get-step}
+use Rattle.register_read.specs.declared.ReadNext.{ReadNext}
+use Rattle.register_read.specs.declared.ReadNext.the-variants as Read
 use Rattle.confirmed_write.specs.Ack.{ack-timeout, ack-waited, ack-step}
 use Rattle.confirmed_write.specs.Ack as AckSpec
 use Rattle.confirmed_write.specs.declared.ack.AckWait.{AckWait}
 use Rattle.confirmed_write.specs.declared.ack.AckWait.the-variants as AckWait
+use Rattle.confirmed_write.specs.Write.{write-sent, write-waited, write-step}
+use Rattle.confirmed_write.specs.declared.ack.AckNext.{AckNext}
 use Rattle.confirmed_write.specs.declared.ack.AckNext.the-variants as Ack
+use Rattle.confirmed_write.specs.declared.Write.{Write}
+use Rattle.confirmed_write.specs.declared.Write.the-variants as Write
 use Rattle.fresh_state.specs.State.{state-by, state-step}
 use Rattle.fresh_state.specs.State as StateSpec
-use Rattle.run_laws.specs.Ends.{ask-opening, ack-opening, Found, ReadSaw, AckSaw, StateSaw}
+use Rattle.run_laws.specs.Ends.{ask-opening, ack-opening, Found, ReadSaw, GetSaw, AckSaw, StateSaw, WriteSaw}
 
 module _ (l : Duration) (answer : Answer) where
   -- ---- the register read
@@ -53,17 +60,29 @@ module _ (l : Duration) (answer : Answer) where
 
     pub read-saw : (ask : Ask) → ReadSaw l entry ask answer (read-step l entry ask answer)
     read-saw Opening = tt
-    read-saw (Asking o) = go (sending-of answer) refl
+    read-saw (Sending o) = go (send-result answer) refl
       where
-        go : (x : Sending) → sending-of answer ≡ x → ReadSaw l entry (Asking o) answer (read-by entry (ask-sent o x))
-        go Went.Sent e = read-look-saw (Asking o) o refl
-        go (Went.Failed failure) e = inl e
+        go : (x : SendResult) → send-result answer ≡ x → ReadSaw l entry (Sending o) answer (read-by entry (ask-sent o x))
+        go SendResult.Sent e = read-look-saw (Sending o) o refl
+        go (SendResult.Failed failure) e = inl e
     read-saw (Waiting (Checking o)) = go (late o l (reading-of answer)) refl
       where
         go : (b : Bool) → late o l (reading-of answer) ≡ b → ReadSaw l entry (Waiting (Checking o)) answer (read-by entry (ask-waited (cond b Waited.Late (Waited.Goes (Napping o)))))
         go true e = inr (o, refl, leb-true _ _ e, refl)
         go false e = tt
     read-saw (Waiting (Napping o)) = read-look-saw (Waiting (Napping o)) o refl
+
+    pub get-saw : (data-type : RegisterDataType) (ask : Ask) → GetSaw data-type l entry ask answer (get-step data-type l entry ask answer)
+    get-saw data-type ask = go (read-step l entry ask answer) (read-saw ask)
+      where
+        go : (x : ReadNext) → ReadSaw l entry ask answer x → GetSaw data-type l entry ask answer (get-by data-type x)
+        go (Read.Goes next) saw = tt
+        go (Read.Got value) saw = typed (of-type value data-type) refl
+          where
+            typed : (b : Bool) → of-type value data-type ≡ b → GetSaw data-type l entry ask answer (cond b (Read.Got value) (Read.Failed WrongType))
+            typed true e = (saw, e)
+            typed false e = inr (value, saw, e, refl)
+        go (Read.Failed failure) saw = inl saw
 
   -- ---- the fresh-state request
 
@@ -81,11 +100,11 @@ module _ (l : Duration) (answer : Answer) where
 
     pub state-saw : (ask : Ask) → StateSaw l latest ask answer (state-step l latest ask answer)
     state-saw Opening = tt
-    state-saw (Asking o) = go (sending-of answer) refl
+    state-saw (Sending o) = go (send-result answer) refl
       where
-        go : (x : Sending) → sending-of answer ≡ x → StateSaw l latest (Asking o) answer (state-by latest (ask-sent o x))
-        go Went.Sent e = state-look-saw (Asking o) o refl
-        go (Went.Failed failure) e = e
+        go : (x : SendResult) → send-result answer ≡ x → StateSaw l latest (Sending o) answer (state-by latest (ask-sent o x))
+        go SendResult.Sent e = state-look-saw (Sending o) o refl
+        go (SendResult.Failed failure) e = e
     state-saw (Waiting (Checking o)) = go (late o l (reading-of answer)) refl
       where
         go : (b : Bool) → late o l (reading-of answer) ≡ b → StateSaw l latest (Waiting (Checking o)) answer (state-by latest (ask-waited (cond b Waited.Late (Waited.Goes (Napping o)))))
@@ -122,3 +141,20 @@ module _ (value : RegisterValue) (entry : Entry) (answer : Answer) where
       go true e = inr (leb-true _ _ e, refl)
       go false e = tt
   ack-saw (AckWait.Waiting (Napping o)) = ack-look-saw (AckWait.Waiting (Napping o)) o refl
+
+  -- ---- the confirmed write
+
+  pub write-saw : (write : Write) → WriteSaw value entry write answer (write-step value entry write answer)
+  write-saw (Write.Sending n) = go (send-result answer) refl
+    where
+      go : (x : SendResult) → send-result answer ≡ x → WriteSaw value entry (Write.Sending n) answer (write-sent n x)
+      go SendResult.Sent e = tt
+      go (SendResult.Failed failure) e = inl (n, refl, e)
+  write-saw (Write.Waiting n ack) = go n (ack-step value entry ack answer) (ack-saw ack)
+    where
+      go : (n : ℕ) (x : AckNext) → AckSaw value entry ack answer x → WriteSaw value entry (Write.Waiting n ack) answer (write-waited n x)
+      go n (Ack.Goes next) saw = tt
+      go n Ack.Acked saw = (n, ack, refl, saw)
+      go zero (Ack.Failed failure) saw = inr (ack, refl, saw)
+      go (suc m) (Ack.Failed failure) saw = tt
+  write-saw (Write.Gap n) = tt

@@ -2,15 +2,11 @@
 use Prim.Native.Nat.{ℕ, zero, suc, _+_, _≤_}
 use mathlib.Core.Path.{_≡_}
 use mathlib.Core.Bool.{false}
-use mathlib.Core.List.{List, [], _∷_}
 use Rattle.motor_core.specs.declared.time.Instant.{Instant}
 use Rattle.motor_core.specs.declared.time.Duration.{Duration}
 use Rattle.registers.specs.Value.{bits-of}
 use Rattle.registers.specs.declared.RegisterValue.{RegisterValue}
-use Rattle.want.specs.Want.{reading-of}
-use Rattle.want.specs.declared.Answer.{Answer}
 use Rattle.want.specs.declared.Want.{Want}
-use Rattle.want.specs.declared.Want.the-variants.{Clock, Send, Sleep}
 use Rattle.want.specs.declared.message.Message.{Message}
 use Rattle.want.specs.declared.message.Message.the-variants as Message
 use Rattle.wait.specs.Wait.{late, poll-interval}
@@ -38,61 +34,51 @@ use Rattle.fresh_state.specs.declared.store.Store.{Store}
 use Rattle.fresh_state.specs.declared.store.Store.the-variants as Store
 use Rattle.fresh_state.specs.declared.store.StoreNext.{StoreNext}
 use Rattle.fresh_state.specs.declared.store.StoreNext.the-variants as Stored
-use Rattle.machine.specs.Machine.{machine-want, machine-step}
 use Rattle.machine.specs.declared.Machine.{Machine}
 use Rattle.machine.specs.declared.Machine.the-variants.{GetRegister, WriteRegister, RequestFreshState, StoreParameters}
 use Rattle.machine.specs.declared.Next.{Next}
 use Rattle.machine.specs.declared.Next.the-variants.{Goes, Ends}
-use Rattle.run_laws.specs.Trace.{Turn, counted}
+use Rattle.run_laws.specs.Clock.{Clocked}
+use Rattle.run_laws.specs.Trace.{counted}
 
--- A way of weighing: what each want weighs, what is known of the clock, and what a wait may still want, `opened` being that of one that opens.
-pub record Budget : Type 1 where
+-- A way of weighing: what each want weighs, and what a wait may still want, by what is known of the clock.
+pub record Budget (κ : Clocked) : Type 1 where
   pub clock : ℕ
   pub send : Message → ℕ
   pub sleep : ℕ
-  pub Known : Type 0
-  pub hear : Instant → Known
-  pub nap : Duration → Known → Known
-  pub Fine : Known → Instant → Type 0
-  pub wait-left : Duration → Known → Wait → ℕ
+  pub wait-left : Duration → κ .Known → Wait → ℕ
+  -- no more than that of a wait which has just opened
   pub opened : Duration → ℕ
-  pub opens : (l : Duration) (o : Instant) → wait-left l (hear o) (Checking o) ≤ opened l
-  pub at-deadline : (l : Duration) (k : Known) (o : Instant) → clock ≤ wait-left l k (Checking o)
-  pub before-deadline : (l : Duration) (k : Known) (o t : Instant) → Fine k t → late o l t ≡ false → clock + wait-left l (hear t) (Napping o) ≤ wait-left l k (Checking o)
-  pub after-sleep : (l : Duration) (k : Known) (o : Instant) → sleep + wait-left l (nap poll-interval k) (Checking o) ≤ wait-left l k (Napping o)
+  pub opens : (l : Duration) (o : Instant) → wait-left l (κ .hear o) (Checking o) ≤ opened l
+  -- the reading that ends the wait
+  pub at-deadline : (l : Duration) (k : κ .Known) (o : Instant) → clock ≤ wait-left l k (Checking o)
+  -- one that does not, and leaves less
+  pub before-deadline : (l : Duration) (k : κ .Known) (o t : Instant) → κ .Fine k t → late o l t ≡ false → clock + wait-left l (κ .hear t) (Napping o) ≤ wait-left l k (Checking o)
+  -- the sleep after it
+  pub after-sleep : (l : Duration) (k : κ .Known) (o : Instant) → sleep + wait-left l (κ .nap poll-interval k) (Checking o) ≤ wait-left l k (Napping o)
 
-module _ (β : Budget) where
+module _ {κ : Clocked} (β : Budget κ) where
   abbrev pub weigh : Want → ℕ
   weigh = counted (β .clock) (β .send) (β .sleep)
 
-  abbrev pub known-after : Want → Answer → β .Known → β .Known
-  known-after Clock a k = β .hear (reading-of a)
-  known-after (Send message) a k = k
-  known-after (Sleep length) a k = β .nap length k
-
-  abbrev pub fine : Want → Answer → β .Known → Type 0
-  fine Clock a k = β .Fine k (reading-of a)
-  fine (Send message) a k = Unit {0}
-  fine (Sleep length) a k = Unit {0}
-
   -- asking, by the message that is sent; a look that finds nothing leaves a wait
-  abbrev pub ask-left : Message → Duration → β .Known → Ask → ℕ
+  abbrev pub ask-left : Message → Duration → κ .Known → Ask → ℕ
   ask-left m l k Ask.Opening = β .clock + β .send m + β .opened l
   ask-left m l k (Ask.Sending o) = β .send m + β .wait-left l k (Checking o)
   ask-left m l k (Ask.Waiting w) = β .wait-left l k w
 
-  abbrev pub asked-left : Message → Duration → β .Known → Asked → ℕ
+  abbrev pub asked-left : Message → Duration → κ .Known → Asked → ℕ
   asked-left m l k (Asked.Goes ask) = ask-left m l k ask
   asked-left m l k (Asked.Looks o) = β .wait-left l k (Checking o)
   asked-left m l k Asked.Late = 0
   asked-left m l k (Asked.Failed failure) = 0
 
-  abbrev pub read-left : ℕ → Duration → β .Known → ReadNext → ℕ
+  abbrev pub read-left : ℕ → Duration → κ .Known → ReadNext → ℕ
   read-left rid l k (Read.Goes ask) = ask-left (Message.ReadRegister rid) l k ask
   read-left rid l k (Read.Got value) = 0
   read-left rid l k (Read.Failed failure) = 0
 
-  abbrev pub state-left : Duration → β .Known → StateNext → ℕ
+  abbrev pub state-left : Duration → κ .Known → StateNext → ℕ
   state-left l k (State.Goes ask) = ask-left Message.RequestFeedback l k ask
   state-left l k (State.Got state) = 0
   state-left l k State.NoState = 0
@@ -105,23 +91,23 @@ module _ (β : Budget) where
   abbrev pub disabling : ℕ
   disabling = β .send Message.Disable + β .sleep + storing
 
-  abbrev pub store-left : β .Known → Store → ℕ
+  abbrev pub store-left : κ .Known → Store → ℕ
   store-left k (Store.Asking ask) = ask-left Message.RequestFeedback state-timeout k ask + disabling
   store-left k Store.Disabling = disabling
   store-left k Store.Disabled = β .sleep + storing
   store-left k Store.Storing = storing
   store-left k Store.Stored = β .sleep
 
-  abbrev pub stored-left : β .Known → StoreNext → ℕ
+  abbrev pub stored-left : κ .Known → StoreNext → ℕ
   stored-left k (Stored.Goes store) = store-left k store
   stored-left k Stored.Done = 0
   stored-left k (Stored.Failed failure) = 0
 
-  abbrev pub ack-left : β .Known → AckWait → ℕ
+  abbrev pub ack-left : κ .Known → AckWait → ℕ
   ack-left k AckWait.Opening = β .clock + β .opened ack-timeout
   ack-left k (AckWait.Waiting w) = β .wait-left ack-timeout k w
 
-  abbrev pub acked-left : β .Known → AckNext → ℕ
+  abbrev pub acked-left : κ .Known → AckNext → ℕ
   acked-left k (Ack.Goes ack) = ack-left k ack
   acked-left k Ack.Acked = 0
   acked-left k (Ack.Failed failure) = 0
@@ -134,29 +120,23 @@ module _ (β : Budget) where
   more-tries rid value zero = 0
   more-tries rid value (suc n) = β .sleep + one-try rid value + more-tries rid value n
 
-  abbrev pub write-left : ℕ → RegisterValue → β .Known → Write → ℕ
+  abbrev pub write-left : ℕ → RegisterValue → κ .Known → Write → ℕ
   write-left rid value k (Write.Sending n) = one-try rid value + more-tries rid value n
   write-left rid value k (Write.Waiting n ack) = ack-left k ack + more-tries rid value n
   write-left rid value k (Write.Gap n) = β .sleep + one-try rid value + more-tries rid value n
 
-  abbrev pub written-left : ℕ → RegisterValue → β .Known → WriteNext → ℕ
+  abbrev pub written-left : ℕ → RegisterValue → κ .Known → WriteNext → ℕ
   written-left rid value k (Written.Goes write) = write-left rid value k write
   written-left rid value k Written.Written = 0
   written-left rid value k (Written.Failed failure) = 0
 
   -- each run's machine
-  abbrev pub machine-left : β .Known → Machine → ℕ
+  abbrev pub machine-left : κ .Known → Machine → ℕ
   machine-left k (GetRegister data-type rid l ask) = ask-left (Message.ReadRegister rid) l k ask
   machine-left k (WriteRegister rid value write) = write-left rid value k write
   machine-left k (RequestFreshState l ask) = ask-left Message.RequestFeedback l k ask
   machine-left k (StoreParameters store) = store-left k store
 
-  abbrev pub left : β .Known → Next → ℕ
+  abbrev pub left : κ .Known → Next → ℕ
   left k (Goes machine) = machine-left k machine
   left k (Ends result) = 0
-
-  -- every answer of a run is fine
-  unfoldable pub All-fine : List Turn → β .Known → Next → Type 0
-  All-fine [] k next = Unit {0}
-  All-fine (t ∷ ts) k (Ends result) = Unit {0}
-  All-fine (t ∷ ts) k (Goes machine) = fine (machine-want machine) (t .answer) k × All-fine ts (known-after (machine-want machine) (t .answer) k) (machine-step (t .latest) (t .entry) machine (t .answer))

@@ -1,23 +1,45 @@
--- What a run knows of the clock where each of its sleeps moves it on. Definitions only.
+-- What a machine knows of the clock by its own readings, and where each of its sleeps moves the clock on. Definitions only.
 use Prim.Native.Nat.{ℕ, _+_, _/_, _≤_, max}
 use mathlib.Core.List.{List, [], _∷_}
+use mathlib.Core.Option.{Option, none, some}
 use Rattle.motor_core.specs.declared.time.Instant.{Instant}
 use Rattle.motor_core.specs.declared.time.Duration.{Duration}
 use Rattle.want.specs.Want.{reading-of}
 use Rattle.want.specs.declared.Answer.{Answer}
 use Rattle.want.specs.declared.Want.{Want}
 use Rattle.want.specs.declared.Want.the-variants as Want
-use Rattle.machine.specs.Machine.{machine-want, machine-step}
-use Rattle.machine.specs.declared.Next.{Next}
-use Rattle.machine.specs.declared.Next.the-variants.{Goes, Ends}
-use Rattle.run_laws.specs.Trace.{Turn}
+use Rattle.run_laws.specs.Trace.{Given, System}
 
--- the last reading that the run took, and the least that its next one can be
+-- what is known after a reading and after a sleep, and which readings are fine then
+pub record Clocked : Type 1 where
+  pub Known : Type 0
+  pub hear : Instant → Known
+  pub nap : Duration → Known → Known
+  pub Fine : Known → Instant → Type 0
+
+module _ (κ : Clocked) where
+  abbrev pub known-after : Want → Answer → κ .Known → κ .Known
+  known-after Want.Clock a k = κ .hear (reading-of a)
+  known-after (Want.Send message) a k = k
+  known-after (Want.Sleep length) a k = κ .nap length k
+
+  abbrev pub fine : Want → Answer → κ .Known → Type 0
+  fine Want.Clock a k = κ .Fine k (reading-of a)
+  fine (Want.Send message) a k = Unit {0}
+  fine (Want.Sleep length) a k = Unit {0}
+
+  -- every reading that a machine takes is fine
+  unfoldable pub All-fine : (σ : System) → List Given → κ .Known → Option (σ .At) → Type 0
+  All-fine σ [] k at = Unit {0}
+  All-fine σ (g ∷ gs) k none = Unit {0}
+  All-fine σ (g ∷ gs) k (some m) = fine (σ .want m) (g .answer) k × All-fine σ gs (known-after (σ .want m) (g .answer) k) (σ .next g m)
+
+-- the last reading that the machine took, and the least that its next one can be
 pub record Clock : Type 0 where
   pub last : ℕ
   pub least : ℕ
 
--- a run that has taken no reading
+-- one that has taken no reading
 abbrev pub unheard : Clock
 unheard = record { last = 0; least = 0 }
 
@@ -28,21 +50,12 @@ heard t = record { last = t .0; least = t .0 }
 abbrev pub slept : Duration → Clock → Clock
 slept d k = record { last = k .last; least = max (k .least) (k .last + d .0) }
 
-abbrev pub clock-after : Want → Answer → Clock → Clock
-clock-after Want.Clock a k = heard (reading-of a)
-clock-after (Want.Send message) a k = k
-clock-after (Want.Sleep length) a k = slept length k
+abbrev pub moving : Clocked
+moving = record { Known = Clock; hear = heard; nap = slept; Fine = λ k t. k .least ≤ t .0 }
 
-abbrev pub no-less : Want → Answer → Clock → Type 0
-no-less Want.Clock a k = k .least ≤ reading-of a .0
-no-less (Want.Send message) a k = Unit {0}
-no-less (Want.Sleep length) a k = Unit {0}
-
--- each reading of the run is no less than its sleeps before it make it
-unfoldable pub Moving : List Turn → Clock → Next → Type 0
-Moving [] k next = Unit {0}
-Moving (t ∷ ts) k (Ends result) = Unit {0}
-Moving (t ∷ ts) k (Goes machine) = no-less (machine-want machine) (t .answer) k × Moving ts (clock-after (machine-want machine) (t .answer) k) (machine-step (t .latest) (t .entry) machine (t .answer))
+-- each reading of the machine is no less than its sleeps before it make it
+abbrev pub Moving : (σ : System) → List Given → Clock → Option (σ .At) → Type 0
+Moving = All-fine moving
 
 -- how many sleeps of the poll interval it takes to pass a length: rounded up
 abbrev pub polls : ℕ → ℕ

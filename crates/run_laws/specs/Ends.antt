@@ -1,12 +1,13 @@
 -- What the end of a wait has seen. Definitions only.
-use Prim.Native.Nat.{_+_, _≤_}
+use Prim.Native.Nat.{ℕ, _+_, _≤_}
 use mathlib.Core.Path.{_≡_}
 use mathlib.Core.Bool.{true, false}
 use mathlib.Core.Logic.{_⊎_}
 use mathlib.Core.Option.{Option, none, some}
 use Rattle.motor_core.specs.declared.time.Instant.{Instant}
 use Rattle.motor_core.specs.declared.time.Duration.{Duration}
-use Rattle.registers.specs.Value.{same-value}
+use Rattle.registers.specs.Value.{same-value, of-type}
+use Rattle.registers.specs.declared.RegisterDataType.{RegisterDataType}
 use Rattle.registers.specs.declared.RegisterValue.{RegisterValue}
 use Rattle.feedback.specs.declared.FeedbackSnapshot.{FeedbackSnapshot}
 use Rattle.feedback.specs.declared.Latest.{Latest}
@@ -14,11 +15,11 @@ use Rattle.feedback.specs.declared.Latest.the-variants.{Snapshot}
 use Rattle.feedback.specs.declared.MotorFeedbackState.{MotorFeedbackState}
 use Rattle.cache.specs.declared.Entry.{Entry}
 use Rattle.cache.specs.declared.Entry.the-variants.{Held}
-use Rattle.want.specs.Want.{reading-of, sending-of}
+use Rattle.want.specs.Want.{reading-of, send-result}
 use Rattle.want.specs.declared.Answer.{Answer}
 use Rattle.want.specs.declared.Failure.{Failure}
-use Rattle.want.specs.declared.Failure.the-variants.{Timeout, Mismatch}
-use Rattle.want.specs.declared.Sending.the-variants as Went
+use Rattle.want.specs.declared.Failure.the-variants.{Timeout, Mismatch, WrongType}
+use Rattle.want.specs.declared.SendResult.the-variants as SendResult
 use Rattle.wait.specs.declared.Wait.{Wait}
 use Rattle.wait.specs.declared.Wait.the-variants.{Checking, Napping}
 use Rattle.wait.specs.declared.ask.Ask.{Ask}
@@ -30,6 +31,10 @@ use Rattle.confirmed_write.specs.declared.ack.AckNext.{AckNext}
 use Rattle.confirmed_write.specs.declared.ack.AckNext.the-variants as Ack
 use Rattle.confirmed_write.specs.declared.ack.AckWait.{AckWait}
 use Rattle.confirmed_write.specs.declared.ack.AckWait.the-variants as AckWait
+use Rattle.confirmed_write.specs.declared.Write.{Write}
+use Rattle.confirmed_write.specs.declared.Write.the-variants as Write
+use Rattle.confirmed_write.specs.declared.WriteNext.{WriteNext}
+use Rattle.confirmed_write.specs.declared.WriteNext.the-variants as Written
 use Rattle.fresh_state.specs.declared.StateNext.{StateNext}
 use Rattle.fresh_state.specs.declared.StateNext.the-variants as State
 
@@ -67,13 +72,20 @@ Past o l answer = o .0 + l .0 ≤ reading-of answer .0
 
 -- a send that failed so
 abbrev pub Unsent : Failure → Answer → Type 0
-Unsent failure answer = sending-of answer ≡ Went.Failed failure
+Unsent failure answer = send-result answer ≡ SendResult.Failed failure
 
 -- what a register read has seen with an answer, if it ends there
 abbrev pub ReadSaw : Duration → Entry → Ask → Answer → ReadNext → Type 0
 ReadSaw l entry ask answer (Read.Goes next) = Unit {0}
 ReadSaw l entry ask answer (Read.Got value) = (o : Instant) × (ask-opening ask ≡ some o) × Found o entry value
 ReadSaw l entry ask answer (Read.Failed failure) = Unsent failure answer ⊎ ((o : Instant) × (ask-opening ask ≡ some o) × Past o l answer × (failure ≡ Timeout))
+
+-- a read of a type: besides, that what it found is of the type, or of the other
+abbrev pub GetSaw : RegisterDataType → Duration → Entry → Ask → Answer → ReadNext → Type 0
+GetSaw data-type l entry ask answer (Read.Goes next) = Unit {0}
+GetSaw data-type l entry ask answer (Read.Got value) = ReadSaw l entry ask answer (Read.Got value) × (of-type value data-type ≡ true)
+GetSaw data-type l entry ask answer (Read.Failed failure) =
+    ReadSaw l entry ask answer (Read.Failed failure) ⊎ ((value : RegisterValue) × ReadSaw l entry ask answer (Read.Got value) × (of-type value data-type ≡ false) × (failure ≡ WrongType))
 
 -- an ack wait
 abbrev pub AckSaw : RegisterValue → Entry → AckWait → Answer → AckNext → Type 0
@@ -88,3 +100,10 @@ StateSaw l latest ask answer (State.Goes next) = Unit {0}
 StateSaw l latest ask answer (State.Got state) = (o : Instant) × (ask-opening ask ≡ some o) × Reported o latest state
 StateSaw l latest ask answer State.NoState = (o : Instant) × (ask-opening ask ≡ some o) × Past o l answer
 StateSaw l latest ask answer (State.Failed failure) = Unsent failure answer
+
+-- a confirmed write: an ack wait's end, for a failure that of the last try; or a send that failed
+abbrev pub WriteSaw : RegisterValue → Entry → Write → Answer → WriteNext → Type 0
+WriteSaw value entry write answer (Written.Goes next) = Unit {0}
+WriteSaw value entry write answer Written.Written = (n : ℕ) × (ack : AckWait) × (write ≡ Write.Waiting n ack) × AckSaw value entry ack answer Ack.Acked
+WriteSaw value entry write answer (Written.Failed failure) =
+    ((n : ℕ) × (write ≡ Write.Sending n) × Unsent failure answer) ⊎ ((ack : AckWait) × (write ≡ Write.Waiting 0 ack) × AckSaw value entry ack answer (Ack.Failed failure))

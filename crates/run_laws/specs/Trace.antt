@@ -1,34 +1,39 @@
--- What a run wants from where it stands on, as its answers come. Definitions only.
+-- What a machine wants from where it stands on, as its answers come. Definitions only.
 use Prim.Native.Nat.{ℕ, _+_}
 use mathlib.Core.List.{List, [], _∷_}
+use mathlib.Core.Option.{Option, none, some}
 use Rattle.feedback.specs.declared.Latest.{Latest}
 use Rattle.cache.specs.declared.Entry.{Entry}
 use Rattle.want.specs.declared.Answer.{Answer}
 use Rattle.want.specs.declared.Want.{Want}
 use Rattle.want.specs.declared.Want.the-variants.{Clock, Send, Sleep}
 use Rattle.want.specs.declared.message.Message.{Message}
-use Rattle.machine.specs.Machine.{machine-want, machine-step}
-use Rattle.machine.specs.declared.Next.{Next}
-use Rattle.machine.specs.declared.Next.the-variants.{Goes, Ends}
 
 -- an answer, with what a look in that call finds
-pub record Turn : Type 0 where
+pub record Given : Type 0 where
   pub answer : Answer
   pub latest : Latest
   pub entry : Entry
 
--- the want that is open, and those that follow until the run ends
-unfoldable pub wants-from : List Turn → Next → List Want
-wants-from [] (Ends result) = []
-wants-from [] (Goes machine) = machine-want machine ∷ []
-wants-from (t ∷ ts) (Ends result) = []
-wants-from (t ∷ ts) (Goes machine) = machine-want machine ∷ wants-from ts (machine-step (t .latest) (t .entry) machine (t .answer))
+-- what is wanted where it stands, and where an answer leads: nowhere, once it has ended
+pub record System : Type 1 where
+  pub At : Type 0
+  pub want : At → Want
+  pub next : Given → At → Option At
 
--- where the run stands then
-unfoldable pub after : List Turn → Next → Next
-after [] next = next
-after (t ∷ ts) (Ends result) = Ends result
-after (t ∷ ts) (Goes machine) = after ts (machine-step (t .latest) (t .entry) machine (t .answer))
+module _ (σ : System) where
+  -- the want that is open, and those that follow until the end
+  unfoldable pub wants-from : List Given → Option (σ .At) → List Want
+  wants-from [] none = []
+  wants-from [] (some m) = σ .want m ∷ []
+  wants-from (g ∷ gs) none = []
+  wants-from (g ∷ gs) (some m) = σ .want m ∷ wants-from gs (σ .next g m)
+
+  -- where it stands then
+  unfoldable pub after : List Given → Option (σ .At) → Option (σ .At)
+  after [] at = at
+  after (g ∷ gs) none = none
+  after (g ∷ gs) (some m) = after gs (σ .next g m)
 
 -- wants counted by their kinds, a send by its message
 abbrev pub counted : (clock : ℕ) (send : Message → ℕ) (sleep : ℕ) → Want → ℕ

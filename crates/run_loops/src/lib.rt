@@ -23,7 +23,7 @@ use taking::process_feedback_frame;
 use want::Answer;
 
 // In nanoseconds.
-const READ_TIMEOUT: u64 = 100_000_000;
+const READ_TIMEOUT: Duration = Duration(100_000_000);
 
 pub enum Kind {
     Read,
@@ -110,7 +110,7 @@ fn one_round(kind: Kind, round: Round, value: u32, at: u64) -> Round
     let sum = round.sum;
     match kind {
         Kind::Read => answered(
-            get_register_u32(session, 10, Duration(READ_TIMEOUT)),
+            get_register_u32(session, 10, READ_TIMEOUT),
             sum,
             Answer::Reading(Instant(at)),
             motor_frame(0x33, value),

@@ -1,6 +1,6 @@
 -- What an answer does to a session, and what it leaves alone. Assumes nothing.
 use Prim.Native.Nat.{ℕ, _≤_, _^_}
-use mathlib.Core.Path.{_≡_, refl, sym, ap, subst}
+use mathlib.Core.Path.{_≡_, refl, sym, ap, _∙_, subst}
 use mathlib.Core.Bool.{Bool, true, false, cond}
 use native.Mathlib.Nat.{le-refl}
 use Rattle.motor_core.specs.Error as Error
@@ -23,6 +23,7 @@ use Rattle.session.specs.declared.Phase.the-variants.{Closed, Open}
 use Rattle.session.specs.declared.Session.{Session}
 use Rattle.runs.specs.Effects.{Follows, Told-truly, Kept}
 use Rattle.runs.specs.Runs.{wanted, answer-accepted, heard-after, stepped, refused, answer-by, phase-place, entry-at, with-step, answer-run}
+use Rattle.runs.specs.declared.Step.{Step}
 use Rattle.runs.specs.declared.Told.{Told}
 use Rattle.runs.specs.declared.Told.the-variants.{Refused}
 use Rattle.runs.specs.declared.Turn.{Turn}
@@ -68,6 +69,17 @@ module _ (s : Session) (a : Answer) where
       by : (p : Phase) → s .run .phase ≡ p → P (with-step s (answer-by p (s .heard) entry (s .run) a))
       by Closed e = no-turn Error.not-wanted
       by (Open m) e = fit m e (fits (machine-want m) a) refl
+
+  -- one that is taken steps the machine, with the record and the entry that are there
+  pub answer-taken : (m : Machine) → s .run .phase ≡ Open m → fits (machine-want m) a ≡ true → answer-accepted (s .heard .last) a ≡ true → answer-run s a ≡ stepped-by m
+  unfolding answer-run
+  answer-taken m o f e =
+      ap (λ (p : Phase). with-step s (answer-by p (s .heard) entry (s .run) a)) o
+      ∙ ap (λ (b : Bool). with-step s (cond b (cond (answer-accepted (s .heard .last) a) taken (refused (s .heard) (s .run) Error.reading)) (refused (s .heard) (s .run) Error.not-wanted))) f
+      ∙ ap (λ (b : Bool). with-step s (cond b taken (refused (s .heard) (s .run) Error.reading))) e
+    where
+      taken : Step
+      taken = stepped (heard-after (s .heard) a) (machine-step (s .heard .feedback .latest) entry m a)
 
   -- what it tells is what the run then wants
   pub answer-follows : Told-truly s (answer-run s a)

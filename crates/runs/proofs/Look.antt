@@ -1,43 +1,35 @@
 -- The entry that a run looks at, found between the slots that stand at one place of both caches. Assumes nothing.
 use Prim.Native.Nat.{ℕ, _≤_, _<_}
-use mathlib.Core.Path.{_≡_, refl, sym, ap, _∙_, subst}
+use mathlib.Core.Path.{_≡_, refl, sym, ap, subst}
 use mathlib.Core.Bool.{Bool, true, false, cond}
 use mathlib.Core.List.{List}
-use native.Mathlib.Omega.{arith}
-use borrow.Author.Tests.{ltb-true, ltb-false, lt-ltb, le-ltb}
+use borrow.Author.Tests.{ltb-false, lt-ltb, le-ltb}
 use lib.Dec.{ltb}
 use lib.ListN.{length, List·getD-eq-default}
-use Rattle.cache.specs.Cache.{empty, slot-of}
+use Rattle.cache.specs.Cache.{empty, slot-of, slot-place}
 use Rattle.cache.specs.declared.Entry.{Entry}
 use Rattle.cache.specs.declared.Entry.the-variants.{Empty}
 use Rattle.cache.specs.declared.Slot.{Slot}
 use Rattle.machine.specs.declared.Place.{Place}
 use Rattle.machine.specs.declared.Place.the-variants.{Nowhere, Reply, Ack}
 use Rattle.runs.specs.Runs.{entry-of, entry-at}
-use Rattle.runs.specs.Slots.{place-register, slot-place, picked, entry-between}
+use Rattle.runs.specs.Slots.{place-register, picked, entry-between}
 
 -- a place's register number that was tested against the slots
-module _ {A : Type 0} (x y : A) (place : Place) (r : ℕ) (e : r ≡ place-register place) where
-  pub has-slot : r < 82 → x ≡ cond (ltb (place-register place) 82) x y
-  has-slot h = sym (ap (λ (b : Bool). cond b x y) (lt-ltb (place-register place) 82 (subst (λ (n : ℕ). n < 82) e h)))
+module _ (place : Place) (reply ack : Slot) (r : ℕ) (e : r ≡ place-register place) where
+  pub has-slot : r < 82 → picked place reply ack ≡ entry-between place reply ack
+  has-slot h = sym (ap (λ (b : Bool). cond b (picked place reply ack) Empty) (lt-ltb (place-register place) 82 (subst (λ (n : ℕ). n < 82) e h)))
 
-  pub has-none : 82 ≤ r → y ≡ cond (ltb (place-register place) 82) x y
-  has-none h = sym (ap (λ (b : Bool). cond b x y) (le-ltb (place-register place) 82 (subst (λ (n : ℕ). 82 ≤ n) e h)))
-
--- among 82 slots
-pub place-below : (place : Place) (r : ℕ) → r ≡ slot-place place → r < 82
-place-below place r at = subst (λ (n : ℕ). n < 82) (sym at) (by (ltb (place-register place) 82) refl)
-  where
-    by : (b : Bool) → ltb (place-register place) 82 ≡ b → cond b (place-register place) 0 < 82
-    by true e = ltb-true _ _ e
-    by false e = omega arith
+  pub has-none : 82 ≤ r → Empty ≡ entry-between place reply ack
+  has-none h = sym (ap (λ (b : Bool). cond b (picked place reply ack) Empty) (le-ltb (place-register place) 82 (subst (λ (n : ℕ). 82 ≤ n) e h)))
 
 -- a number beyond the slots
 slotless : (slots : List Slot) (rid : ℕ) → length slots ≡ 82 → ltb rid 82 ≡ false → Empty ≡ entry-of slots rid
 slotless slots rid l h = sym (ap (λ (s : Slot). s .entry) (List·getD-eq-default slots empty (subst (λ (n : ℕ). n ≤ rid) (sym l) (ltb-false _ _ h))))
 
 module _ (replies acks : List Slot) (r : length replies ≡ 82) (a : length acks ≡ 82) where
-  pub found-between : (place : Place) → entry-between place (slot-of replies (slot-place place)) (slot-of acks (slot-place place)) ≡ entry-at replies acks place
+  pub found-between : (place : Place) → entry-between place (slot-of replies (slot-place (place-register place))) (slot-of acks (slot-place (place-register place))) ≡ entry-at replies acks place
+  unfolding slot-place
   found-between place = by place (ltb (place-register place) 82) refl
     where
       by : (p : Place) (b : Bool) → ltb (place-register p) 82 ≡ b → cond b (picked p (slot-of replies (cond b (place-register p) 0)) (slot-of acks (cond b (place-register p) 0))) Empty ≡ entry-at replies acks p

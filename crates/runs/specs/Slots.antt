@@ -13,14 +13,11 @@ place-register Nowhere = 0
 place-register (Reply rid) = rid
 place-register (Ack rid) = rid
 
--- a number from 82 on has no slot
-abbrev pub slot-place : Place → ℕ
-slot-place place = cond (ltb (place-register place) 82) (place-register place) 0
-
 abbrev pub picked : Place → Slot → Slot → Entry
 picked Nowhere reply ack = Empty
 picked (Reply rid) reply ack = reply .entry
 picked (Ack rid) reply ack = ack .entry
 
+-- a number from 82 on has no slot
 abbrev pub entry-between : Place → Slot → Slot → Entry
 entry-between place reply ack = cond (ltb (place-register place) 82) (picked place reply ack) Empty

@@ -3,9 +3,10 @@
 
 ghost use mathlib.Core.Path.{_≡_};
 ghost use Rattle.runs.specs.Runs as Spec;
-ghost use Rattle.runs.specs.Slots.{slot-place, place-register, entry-between};
+ghost use Rattle.runs.specs.Slots.{place-register, entry-between};
 use cache::Entry;
 use cache::Slot;
+use cache::slot_place;
 use machine::Machine;
 use machine::Next;
 use machine::Place;
@@ -164,14 +165,6 @@ fn run_place(run: Run) -> Place
     }
 }
 
-// Where a place's slot stands, in either cache; 0 where it has none.
-fn slot_place(place: Place) -> usize
-    ensures { λ r. ⌜ r ≡ slot-place place ⌝ }
-{
-    let rid = place_register(place);
-    if rid < 82 { rid as usize } else { 0 }
-}
-
 fn place_register(place: Place) -> u8
     ensures { λ r. ⌜ r ≡ place-register place ⌝ }
 {
@@ -205,7 +198,7 @@ pub fn answer_run(session: Session, answer: Answer) -> Turn
     let heard = session.heard;
     let run = session.run;
     let place = run_place(run);
-    let at = slot_place(place);
+    let at = slot_place(place_register(place));
     let reply = session.replies[at];
     let ack = session.acks[at];
     let step = answer_step(heard, entry_between(place, reply, ack), run, answer);

@@ -1,11 +1,11 @@
 // Taking a frame into a session. The work is done on the session's small parts, with at most one slot
 // that is written; the entry on a whole session is thin around it.
 ghost use mathlib.Core.Path.{_≡_};
-ghost use Prim.Native.Nat.{_<_};
 ghost use Rattle.cache.specs.Cache.{held};
 ghost use Rattle.taking.specs.Taking as Spec;
 use cache::Entry;
 use cache::Slot;
+use cache::slot_place;
 use feedback::FeedbackCache;
 use feedback::state_of;
 use feedback::update;
@@ -113,15 +113,6 @@ pub fn frame_step(heard: Heard, frame: CanFrame, reading: Instant) -> Step
         read_frame(data, limits),
         reading,
     )
-}
-
-// A register's place among the slots. The test is always met; it tells the compiler the bound, and
-// with it the session is copied whole and not piece by piece.
-fn slot_place(rid: u8) -> usize
-    requires { ⌜ rid < 82 ⌝ }
-    ensures { λ r. ⌜ r ≡ rid ⌝ }
-{
-    if rid < 82 { rid as usize } else { 0 }
 }
 
 // Takes a frame, with its reading, into a session.

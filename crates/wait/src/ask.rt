@@ -10,11 +10,11 @@ use motor_core::time::Duration;
 use motor_core::time::Instant;
 use want::Answer;
 use want::Failure;
-use want::Sending;
+use want::SendResult;
 use want::Want;
 use want::message::Message;
 use want::reading_of;
-use want::sending_of;
+use want::send_result;
 
 pub enum Ask {
     Opening,
@@ -40,12 +40,12 @@ pub fn ask_want(message: Message, ask: Ask) -> Want
     }
 }
 
-fn ask_sent(opening: Instant, sending: Sending) -> Asked
+fn ask_sent(opening: Instant, sending: SendResult) -> Asked
     ensures { λ r. ⌜ r ≡ Spec.ask-sent opening sending ⌝ }
 {
     match sending {
-        Sending::Sent => Asked::Looks(opening),
-        Sending::Failed(failure) => Asked::Failed(failure),
+        SendResult::Sent => Asked::Looks(opening),
+        SendResult::Failed(failure) => Asked::Failed(failure),
     }
 }
 
@@ -64,7 +64,7 @@ pub fn ask_step(length: Duration, ask: Ask, answer: Answer) -> Asked
 {
     match ask {
         Ask::Opening => Asked::Goes(Ask::Sending(reading_of(answer))),
-        Ask::Sending(opening) => ask_sent(opening, sending_of(answer)),
+        Ask::Sending(opening) => ask_sent(opening, send_result(answer)),
         Ask::Waiting(wait) => ask_waited(wait_step(length, wait, answer)),
     }
 }

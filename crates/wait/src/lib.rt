@@ -12,7 +12,7 @@ use want::Want;
 use want::reading_of;
 
 // In nanoseconds.
-const REGISTER_POLL_INTERVAL: u64 = 2_000_000;
+const REGISTER_POLL_INTERVAL: Duration = Duration(2_000_000);
 
 // After a look that found nothing, with the wait's opening.
 pub enum Wait {
@@ -39,7 +39,7 @@ pub fn wait_want(wait: Wait) -> Want
 {
     match wait {
         Wait::Checking(_) => Want::Clock,
-        Wait::Napping(_) => Want::Sleep(Duration(REGISTER_POLL_INTERVAL)),
+        Wait::Napping(_) => Want::Sleep(REGISTER_POLL_INTERVAL),
     }
 }
 

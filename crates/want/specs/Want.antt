@@ -8,8 +8,8 @@ use Rattle.want.specs.declared.Want.the-variants.{Clock, Send, Sleep}
 use Rattle.want.specs.declared.Answer.{Answer}
 use Rattle.want.specs.declared.Answer.the-variants.{Reading, Sent, SendTimeout, SendFailed, Slept}
 use Rattle.want.specs.declared.Failure.the-variants as Failure
-use Rattle.want.specs.declared.Sending.{Sending}
-use Rattle.want.specs.declared.Sending.the-variants as Went
+use Rattle.want.specs.declared.SendResult.{SendResult}
+use Rattle.want.specs.declared.SendResult.the-variants as SendResult
 
 -- the three kinds of wants, by numbers, and of answers
 abbrev pub kind-wanted : Want → ℕ
@@ -37,9 +37,9 @@ reading-of SendFailed = record { 0 = 0 }
 reading-of Slept = record { 0 = 0 }
 
 -- how a send went; one that timed out fails as a timeout
-abbrev pub sending-of : Answer → Sending
-sending-of (Reading t) = Went.Sent
-sending-of Sent = Went.Sent
-sending-of SendTimeout = Went.Failed Failure.Timeout
-sending-of SendFailed = Went.Failed Failure.SendFailed
-sending-of Slept = Went.Sent
+abbrev pub send-result : Answer → SendResult
+send-result (Reading t) = SendResult.Sent
+send-result Sent = SendResult.Sent
+send-result SendTimeout = SendResult.Failed Failure.Timeout
+send-result SendFailed = SendResult.Failed Failure.SendFailed
+send-result Slept = SendResult.Sent

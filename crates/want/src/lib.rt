@@ -31,7 +31,7 @@ pub enum Failure {
 }
 
 // How a send went.
-pub enum Sending {
+pub enum SendResult {
     Sent,
     Failed(Failure),
 }
@@ -80,14 +80,14 @@ pub fn reading_of(answer: Answer) -> Instant
 }
 
 // How the wanted send went.
-pub fn sending_of(answer: Answer) -> Sending
-    ensures { λ r. ⌜ r ≡ Spec.sending-of answer ⌝ }
+pub fn send_result(answer: Answer) -> SendResult
+    ensures { λ r. ⌜ r ≡ Spec.send-result answer ⌝ }
 {
     match answer {
-        Answer::Reading(_) => Sending::Sent,
-        Answer::Sent => Sending::Sent,
-        Answer::SendTimeout => Sending::Failed(Failure::Timeout),
-        Answer::SendFailed => Sending::Failed(Failure::SendFailed),
-        Answer::Slept => Sending::Sent,
+        Answer::Reading(_) => SendResult::Sent,
+        Answer::Sent => SendResult::Sent,
+        Answer::SendTimeout => SendResult::Failed(Failure::Timeout),
+        Answer::SendFailed => SendResult::Failed(Failure::SendFailed),
+        Answer::Slept => SendResult::Sent,
     }
 }

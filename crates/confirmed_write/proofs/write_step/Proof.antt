@@ -8,8 +8,8 @@ use Rattle.confirmed_write.proofs.write_step.Tie as tie
 enum-known-write : tie.Need-enum-known-write
 enum-known-write c = search needs
 
-sending-of-requires : tie.Need-sending-of-requires
-sending-of-requires c κs = search needs
+send-result-requires : tie.Need-send-result-requires
+send-result-requires c κs = search needs
 
 write-sent-requires : tie.Need-write-sent-requires
 write-sent-requires c κs = search needs
@@ -27,7 +27,7 @@ enum-known-write-3 : tie.Need-enum-known-write-3
 enum-known-write-3 c = search needs
 
 returns : tie.Need-returns
-returns c = let a = c .before .before .before .before .before .args in c .write-sent .ensures ∙ ap (write-sent _) (c .before .sending-of .ensures) ∙ sym (ap (λ w. write-step (a .value) (a .entry) w (a .answer)) (c .before .before .before .write .given .1))
+returns c = let a = c .before .before .before .before .before .args in c .write-sent .ensures ∙ ap (write-sent _) (c .before .send-result .ensures) ∙ sym (ap (λ w. write-step (a .value) (a .entry) w (a .answer)) (c .before .before .before .write .given .1))
 
 returns-2 : tie.Need-returns-2
 returns-2 c = let a = c .before .before .before .before .before .args in c .write-waited .ensures ∙ ap (write-waited _) (c .before .ack-step .ensures) ∙ sym (ap (λ w. write-step (a .value) (a .entry) w (a .answer)) (c .before .before .before .write2 .given .1))
@@ -40,7 +40,7 @@ write-step-spec =
     tie.close
     (tie.spec
     enum-known-write
-    sending-of-requires
+    send-result-requires
     write-sent-requires
     enum-known-write-2
     ack-step-requires

@@ -11,7 +11,7 @@ place-register-requires : tie.Need-place-register-requires
 place-register-requires c κs = search needs
 
 returns : tie.Need-returns
-returns c = has-none _ _ (c .before .before .args .place) _ (c .before .place-register .ensures) (c .if1 .taken)
+returns c = has-none (c .before .before .args .place) (c .before .before .args .reply) (c .before .before .args .ack) _ (c .before .place-register .ensures) (c .if1 .taken)
 
 enum-told : tie.Need-enum-told
 enum-told c = search needs
@@ -26,19 +26,19 @@ returns-2 : tie.Need-returns-2
 returns-2 c =
     let a = c .before .before .before .before .args in
     let tested = c .before .before in
-    sym (ap (λ (p : Place). picked p (a .reply) (a .ack)) (c .enum-told .given .1)) ∙ has-slot _ _ (a .place) _ (tested .before .place-register .ensures) (tested .if1 .left)
+    sym (ap (λ (p : Place). picked p (a .reply) (a .ack)) (c .enum-told .given .1)) ∙ has-slot (a .place) (a .reply) (a .ack) _ (tested .before .place-register .ensures) (tested .if1 .left)
 
 returns-3 : tie.Need-returns-3
 returns-3 c =
     let a = c .before .before .before .before .args in
     let tested = c .before .before in
-    sym (ap (λ (p : Place). picked p (a .reply) (a .ack)) (c .enum-told2 .given .1)) ∙ has-slot _ _ (a .place) _ (tested .before .place-register .ensures) (tested .if1 .left)
+    sym (ap (λ (p : Place). picked p (a .reply) (a .ack)) (c .enum-told2 .given .1)) ∙ has-slot (a .place) (a .reply) (a .ack) _ (tested .before .place-register .ensures) (tested .if1 .left)
 
 returns-4 : tie.Need-returns-4
 returns-4 c =
     let a = c .before .before .before .before .args in
     let tested = c .before .before in
-    sym (ap (λ (p : Place). picked p (a .reply) (a .ack)) (c .enum-told3 .given .1)) ∙ has-slot _ _ (a .place) _ (tested .before .place-register .ensures) (tested .if1 .left)
+    sym (ap (λ (p : Place). picked p (a .reply) (a .ack)) (c .enum-told3 .given .1)) ∙ has-slot (a .place) (a .reply) (a .ack) _ (tested .before .place-register .ensures) (tested .if1 .left)
 
 pub entry-between-spec : {M : Type 1} → statement M
 entry-between-spec =

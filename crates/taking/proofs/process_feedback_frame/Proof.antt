@@ -1,6 +1,8 @@
 -- `taking::process_feedback_frame` meets its contract. Assumes nothing.
-use Prim.Native.Nat.{ℕ, _<_}
-use mathlib.Core.Path.{sym, ap, _∙_, subst}
+use Prim.Native.Nat.{ℕ}
+use mathlib.Core.Path.{ap, _∙_}
+use native.Mathlib.Omega.{arith}
+use Rattle.cache.proofs.Places.{slot-below, own-slot}
 use Rattle.taking.specs.declared.Kept.the-variants as Keep
 use Rattle.taking.proofs.Parts.{put, taken-by, placed}
 use borrow.Author.Needs.{needs}
@@ -17,41 +19,25 @@ enum-known-kept : tie.Need-enum-known-kept
 enum-known-kept c = search needs
 
 slot-place-requires : tie.Need-slot-place-requires
-slot-place-requires c κs =
-    let told = c .before in
-    let stepped = told .before .before .before in
-    let a = stepped .before .before .args in
-    placed (a .session .heard) (a .frame) (a .reading) _ _ (stepped .frame-step .ensures) (told .kept .given .1)
+slot-place-requires c κs = search needs
 
 mul-slot : tie.Need-mul-slot
-mul-slot c = search needs
+mul-slot c = omega (arith, slot-below _ _ (c .slot-place .ensures))
 
 element-set-from-slot : tie.Need-element-set-from-slot
-element-set-from-slot c =
-    let told = c .before .before in
-    let stepped = told .before .before .before in
-    let a = stepped .before .before .args in
-    subst (λ (i : ℕ). i < 82) (sym (c .slot-place .ensures)) (placed (a .session .heard) (a .frame) (a .reading) _ _ (stepped .frame-step .ensures) (told .kept .given .1))
+element-set-from-slot c = slot-below _ _ (c .slot-place .ensures)
 
 enum-known-kept-2 : tie.Need-enum-known-kept-2
 enum-known-kept-2 c = search needs
 
 slot-place-requires-2 : tie.Need-slot-place-requires-2
-slot-place-requires-2 c κs =
-    let told = c .before in
-    let stepped = told .before .before .before in
-    let a = stepped .before .before .args in
-    placed (a .session .heard) (a .frame) (a .reading) _ _ (stepped .frame-step .ensures) (told .kept2 .given .1)
+slot-place-requires-2 c κs = search needs
 
 mul-slot-2 : tie.Need-mul-slot-2
-mul-slot-2 c = search needs
+mul-slot-2 c = omega (arith, slot-below _ _ (c .slot-place2 .ensures))
 
 element-set-from-slot-2 : tie.Need-element-set-from-slot-2
-element-set-from-slot-2 c =
-    let told = c .before .before in
-    let stepped = told .before .before .before in
-    let a = stepped .before .before .args in
-    subst (λ (i : ℕ). i < 82) (sym (c .slot-place2 .ensures)) (placed (a .session .heard) (a .frame) (a .reading) _ _ (stepped .frame-step .ensures) (told .kept2 .given .1))
+element-set-from-slot-2 c = slot-below _ _ (c .slot-place2 .ensures)
 
 returns : tie.Need-returns
 returns c =
@@ -64,7 +50,7 @@ returns-2 c =
     let told = c .before .before in
     let stepped = told .before .before .before in
     let a = stepped .before .before .args in
-    ap (λ (i : ℕ). put (a .session) (stepped .frame-step .result .outcome) (stepped .frame-step .result .heard) (Keep.Reply i (told .kept .given .0 .1 .0))) (c .slot-place .ensures)
+    ap (λ (i : ℕ). put (a .session) (stepped .frame-step .result .outcome) (stepped .frame-step .result .heard) (Keep.Reply i (told .kept .given .0 .1 .0))) (own-slot _ _ (c .slot-place .ensures) (placed (a .session .heard) (a .frame) (a .reading) _ _ (stepped .frame-step .ensures) (told .kept .given .1)))
     ∙ taken-by (a .session) (a .frame) (a .reading) _ _ (stepped .frame-step .ensures) (told .kept .given .1)
 
 returns-3 : tie.Need-returns-3
@@ -72,7 +58,7 @@ returns-3 c =
     let told = c .before .before in
     let stepped = told .before .before .before in
     let a = stepped .before .before .args in
-    ap (λ (i : ℕ). put (a .session) (stepped .frame-step .result .outcome) (stepped .frame-step .result .heard) (Keep.Ack i (told .kept2 .given .0 .1 .0))) (c .slot-place2 .ensures)
+    ap (λ (i : ℕ). put (a .session) (stepped .frame-step .result .outcome) (stepped .frame-step .result .heard) (Keep.Ack i (told .kept2 .given .0 .1 .0))) (own-slot _ _ (c .slot-place2 .ensures) (placed (a .session .heard) (a .frame) (a .reading) _ _ (stepped .frame-step .ensures) (told .kept2 .given .1)))
     ∙ taken-by (a .session) (a .frame) (a .reading) _ _ (stepped .frame-step .ensures) (told .kept2 .given .1)
 
 pub process-feedback-frame-spec : {M : Type 1} → statement M

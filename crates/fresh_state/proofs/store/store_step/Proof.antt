@@ -18,8 +18,8 @@ store-asked-requires c κs = search needs
 enum-told : tie.Need-enum-told
 enum-told c = search needs
 
-sending-of-requires : tie.Need-sending-of-requires
-sending-of-requires c κs = search needs
+send-result-requires : tie.Need-send-result-requires
+send-result-requires c κs = search needs
 
 store-sent-requires : tie.Need-store-sent-requires
 store-sent-requires c κs = search needs
@@ -30,8 +30,8 @@ enum-told-2 c = search needs
 enum-told-3 : tie.Need-enum-told-3
 enum-told-3 c = search needs
 
-sending-of-requires-2 : tie.Need-sending-of-requires-2
-sending-of-requires-2 c κs = search needs
+send-result-requires-2 : tie.Need-send-result-requires-2
+send-result-requires-2 c κs = search needs
 
 store-sent-requires-2 : tie.Need-store-sent-requires-2
 store-sent-requires-2 c κs = search needs
@@ -43,13 +43,13 @@ returns : tie.Need-returns
 returns c = ap Goes (c .store-asked .ensures ∙ ap store-asked (c .before .state-step .ensures)) ∙ sym (ap (λ s. store-step (c .before .before .before .before .before .args .latest) s (c .before .before .before .before .before .args .answer)) (c .before .before .before .store .given .1))
 
 returns-2 : tie.Need-returns-2
-returns-2 c = c .store-sent .ensures ∙ ap (store-sent _) (c .before .sending-of .ensures) ∙ sym (ap (λ s. store-step (c .before .before .before .before .args .latest) s (c .before .before .before .before .args .answer)) (c .before .before .enum-told .given .1))
+returns-2 c = c .store-sent .ensures ∙ ap (store-sent _) (c .before .send-result .ensures) ∙ sym (ap (λ s. store-step (c .before .before .before .before .args .latest) s (c .before .before .before .before .args .answer)) (c .before .before .enum-told .given .1))
 
 returns-3 : tie.Need-returns-3
 returns-3 c = sym (ap (λ s. store-step (c .before .before .args .latest) s (c .before .before .args .answer)) (c .enum-told2 .given .1))
 
 returns-4 : tie.Need-returns-4
-returns-4 c = c .store-sent2 .ensures ∙ ap (store-sent _) (c .before .sending-of2 .ensures) ∙ sym (ap (λ s. store-step (c .before .before .before .before .args .latest) s (c .before .before .before .before .args .answer)) (c .before .before .enum-told3 .given .1))
+returns-4 c = c .store-sent2 .ensures ∙ ap (store-sent _) (c .before .send-result2 .ensures) ∙ sym (ap (λ s. store-step (c .before .before .before .before .args .latest) s (c .before .before .before .before .args .answer)) (c .before .before .enum-told3 .given .1))
 
 returns-5 : tie.Need-returns-5
 returns-5 c = search needs
@@ -62,11 +62,11 @@ store-step-spec =
     state-step-requires
     store-asked-requires
     enum-told
-    sending-of-requires
+    send-result-requires
     store-sent-requires
     enum-told-2
     enum-told-3
-    sending-of-requires-2
+    send-result-requires-2
     store-sent-requires-2
     enum-told-4
     returns

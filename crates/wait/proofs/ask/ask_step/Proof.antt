@@ -16,8 +16,8 @@ reading-of-requires c κs = search needs
 enum-known-ask : tie.Need-enum-known-ask
 enum-known-ask c = search needs
 
-sending-of-requires : tie.Need-sending-of-requires
-sending-of-requires c κs = search needs
+send-result-requires : tie.Need-send-result-requires
+send-result-requires c κs = search needs
 
 ask-sent-requires : tie.Need-ask-sent-requires
 ask-sent-requires c κs = search needs
@@ -35,7 +35,7 @@ returns : tie.Need-returns
 returns c = let a = c .before .before .before .args in ap (λ t. Goes (Sending t)) (c .reading-of .ensures) ∙ sym (ap (λ k. ask-step (a .length) k (a .answer)) (c .before .enum-told .given .1))
 
 returns-2 : tie.Need-returns-2
-returns-2 c = let a = c .before .before .before .before .before .args in c .ask-sent .ensures ∙ ap (ask-sent _) (c .before .sending-of .ensures) ∙ sym (ap (λ k. ask-step (a .length) k (a .answer)) (c .before .before .before .ask .given .1))
+returns-2 c = let a = c .before .before .before .before .before .args in c .ask-sent .ensures ∙ ap (ask-sent _) (c .before .send-result .ensures) ∙ sym (ap (λ k. ask-step (a .length) k (a .answer)) (c .before .before .before .ask .given .1))
 
 returns-3 : tie.Need-returns-3
 returns-3 c = let a = c .before .before .before .before .before .args in c .ask-waited .ensures ∙ ap ask-waited (c .before .wait-step .ensures) ∙ sym (ap (λ k. ask-step (a .length) k (a .answer)) (c .before .before .before .ask2 .given .1))
@@ -47,7 +47,7 @@ ask-step-spec =
     enum-told
     reading-of-requires
     enum-known-ask
-    sending-of-requires
+    send-result-requires
     ask-sent-requires
     enum-known-ask-2
     wait-step-requires

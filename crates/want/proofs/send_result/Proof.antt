@@ -1,9 +1,9 @@
--- `want::sending_of` meets its contract. Assumes nothing.
+-- `want::send_result` meets its contract. Assumes nothing.
 use mathlib.Core.Path.{sym, ap}
-use Rattle.want.specs.Want.{sending-of}
+use Rattle.want.specs.Want.{send-result}
 use borrow.Author.Needs.{needs}
-use Rattle.want.proofs.sending_of.Statement.{statement}
-use Rattle.want.proofs.sending_of.Tie as tie
+use Rattle.want.proofs.send_result.Statement.{statement}
+use Rattle.want.proofs.send_result.Tie as tie
 
 enum-told : tie.Need-enum-told
 enum-told c = search needs
@@ -27,16 +27,16 @@ returns-2 : tie.Need-returns-2
 returns-2 c = search needs
 
 returns-3 : tie.Need-returns-3
-returns-3 c = sym (ap sending-of (c .enum-told3 .given .1))
+returns-3 c = sym (ap send-result (c .enum-told3 .given .1))
 
 returns-4 : tie.Need-returns-4
-returns-4 c = sym (ap sending-of (c .enum-told4 .given .1))
+returns-4 c = sym (ap send-result (c .enum-told4 .given .1))
 
 returns-5 : tie.Need-returns-5
 returns-5 c = search needs
 
-pub sending-of-spec : {M : Type 1} → statement M
-sending-of-spec =
+pub send-result-spec : {M : Type 1} → statement M
+send-result-spec =
     tie.close
     (tie.spec
     enum-told

@@ -1,0 +1,38 @@
+-- What a wait and a whole run want at most. Definitions only.
+use Prim.Native.Nat.{ℕ, _+_, _*_, _≤_}
+use mathlib.Core.Path.{_≡_}
+use mathlib.Core.Bool.{Bool}
+use mathlib.Core.List.{List}
+use mathlib.Core.Option.{none, some}
+use lib.ListN.{length}
+use Rattle.motor_core.specs.declared.time.Instant.{Instant}
+use Rattle.motor_core.specs.declared.time.Duration.{Duration}
+use Rattle.registers.specs.declared.RegisterDataType.{RegisterDataType}
+use Rattle.registers.specs.declared.RegisterValue.{RegisterValue}
+use Rattle.wait.specs.declared.Wait.the-variants.{Checking}
+use Rattle.wait.specs.declared.ask.Ask.the-variants.{Opening}
+use Rattle.confirmed_write.specs.Write.{first-try}
+use Rattle.confirmed_write.specs.declared.ack.AckWait.the-variants as AckWait
+use Rattle.fresh_state.specs.declared.store.Store.the-variants.{Asking}
+use Rattle.machine.specs.declared.Machine.{Machine}
+use Rattle.machine.specs.declared.Machine.the-variants.{GetRegister, WriteRegister, RequestFreshState, StoreParameters}
+use Rattle.run_laws.specs.Clock.{unheard, heard, Moving, polls}
+use Rattle.run_laws.specs.Systems.{waiting, acking, running}
+use Rattle.run_laws.specs.Trace.{Given, wants-from, after, a-send, a-sleep, any-want, total}
+
+-- so many sends, whatever the clock does; so many sleeps, and ended after so many answers, if its sleeps move the clock
+pub record Within (start : Machine) (sends sleeps answers : ℕ) : Type 0 where
+  pub sends-at-most : (gs : List Given) → total a-send (wants-from running gs (some start)) ≤ sends
+  pub sleeps-at-most : (gs : List Given) → Moving running gs unheard (some start) → total a-sleep (wants-from running gs (some start)) ≤ sleeps
+  pub ends-after : (gs : List Given) → Moving running gs unheard (some start) → answers ≤ length gs → after running gs (some start) ≡ none
+
+pub record Bounds : Type 0 where
+  -- a wait sleeps no more often than fits its length, rounded up, if its own sleeps move the clock; one for an ack 25 times
+  pub wait : (l : Duration) (finds : Given → Instant → Bool) (o : Instant) (gs : List Given) → Moving (waiting l finds) gs (heard o) (some (Checking o)) → total a-sleep (wants-from (waiting l finds) gs (some (Checking o))) ≤ polls (l .0)
+  pub ack-wait : (value : RegisterValue) (gs : List Given) → Moving (acking value) gs unheard (some AckWait.Opening) → total a-sleep (wants-from (acking value) gs (some AckWait.Opening)) ≤ 25
+  -- the runs
+  pub read : (data-type : RegisterDataType) (rid : ℕ) (l : Duration) → Within (GetRegister data-type rid l Opening) 1 (polls (l .0)) (3 + 2 * polls (l .0))
+  pub request : (l : Duration) → Within (RequestFreshState l Opening) 1 (polls (l .0)) (3 + 2 * polls (l .0))
+  -- three tries of a send and 25 sleeps each, and two gaps
+  pub write : (rid : ℕ) (value : RegisterValue) → Within (WriteRegister rid value first-try) 3 77 161
+  pub store : Within (StoreParameters (Asking Opening)) 3 27 57
