@@ -22,7 +22,7 @@ use Rattle.session.specs.declared.Phase.{Phase}
 use Rattle.session.specs.declared.Phase.the-variants.{Closed, Open}
 use Rattle.session.specs.declared.Session.{Session}
 use Rattle.runs.specs.Effects.{Follows, Told-truly, Kept}
-use Rattle.runs.specs.Runs.{wanted, answer-accepted, heard-after, stepped, refused, answer-by, phase-place, entry-at, with-step, answer-run}
+use Rattle.runs.specs.Runs.{wanted, answer-accepted, with-reading, stepped, refused, answer-by, phase-place, entry-at, with-step, answer-run}
 use Rattle.runs.specs.declared.Step.{Step}
 use Rattle.runs.specs.declared.Told.{Told}
 use Rattle.runs.specs.declared.Told.the-variants.{Refused}
@@ -35,7 +35,7 @@ wants-follow before after m (Send message) e o = record { machine = m; is-open =
 wants-follow before after m (Sleep length) e o = record { machine = m; is-open = o; tells = ap (wanted _) (sym e) }
 
 -- an answer changes nothing of what was heard but the last reading
-heard-same : {A : Type 0} {h : Heard} (part : Heard → A) → ((t : Instant) → part (with-last h t) ≡ part h) → (a : Answer) → part (heard-after h a) ≡ part h
+heard-same : {A : Type 0} {h : Heard} (part : Heard → A) → ((t : Instant) → part (with-last h t) ≡ part h) → (a : Answer) → part (with-reading h a) ≡ part h
 heard-same part e (Reading t) = e t
 heard-same part e Sent = refl
 heard-same part e SendTimeout = refl
@@ -49,7 +49,7 @@ module _ (s : Session) (a : Answer) where
   entry = entry-at (s .replies) (s .acks) (phase-place (s .run .phase))
 
   abbrev pub stepped-by : Machine → Turn
-  stepped-by m = with-step s (stepped (heard-after (s .heard) a) (machine-step (s .heard .feedback .latest) entry m a))
+  stepped-by m = with-step s (stepped (with-reading (s .heard) a) (machine-step (s .heard .feedback .latest) entry m a))
 
   abbrev turned : ℕ → Turn
   turned n = with-step s (refused (s .heard) (s .run) n)
@@ -58,11 +58,11 @@ module _ (s : Session) (a : Answer) where
   unfolding answer-run
   answer-cases P no-turn turn = by (s .run .phase) refl
     where
-      read : (m : Machine) → s .run .phase ≡ Open m → fits (machine-want m) a ≡ true → (b : Bool) → answer-accepted (s .heard .last) a ≡ b → P (with-step s (cond b (stepped (heard-after (s .heard) a) (machine-step (s .heard .feedback .latest) entry m a)) (refused (s .heard) (s .run) Error.reading)))
+      read : (m : Machine) → s .run .phase ≡ Open m → fits (machine-want m) a ≡ true → (b : Bool) → answer-accepted (s .heard .last) a ≡ b → P (with-step s (cond b (stepped (with-reading (s .heard) a) (machine-step (s .heard .feedback .latest) entry m a)) (refused (s .heard) (s .run) Error.reading)))
       read m o f true e = turn m o f e
       read m o f false e = no-turn Error.reading
 
-      fit : (m : Machine) → s .run .phase ≡ Open m → (b : Bool) → fits (machine-want m) a ≡ b → P (with-step s (cond b (cond (answer-accepted (s .heard .last) a) (stepped (heard-after (s .heard) a) (machine-step (s .heard .feedback .latest) entry m a)) (refused (s .heard) (s .run) Error.reading)) (refused (s .heard) (s .run) Error.not-wanted)))
+      fit : (m : Machine) → s .run .phase ≡ Open m → (b : Bool) → fits (machine-want m) a ≡ b → P (with-step s (cond b (cond (answer-accepted (s .heard .last) a) (stepped (with-reading (s .heard) a) (machine-step (s .heard .feedback .latest) entry m a)) (refused (s .heard) (s .run) Error.reading)) (refused (s .heard) (s .run) Error.not-wanted)))
       fit m o true e = read m o e (answer-accepted (s .heard .last) a) refl
       fit m o false e = no-turn Error.not-wanted
 
@@ -79,14 +79,14 @@ module _ (s : Session) (a : Answer) where
       ∙ ap (λ (b : Bool). with-step s (cond b taken (refused (s .heard) (s .run) Error.reading))) e
     where
       taken : Step
-      taken = stepped (heard-after (s .heard) a) (machine-step (s .heard .feedback .latest) entry m a)
+      taken = stepped (with-reading (s .heard) a) (machine-step (s .heard .feedback .latest) entry m a)
 
   -- what it tells is what the run then wants
   pub answer-follows : Told-truly s (answer-run s a)
   answer-follows = answer-cases (Told-truly s) (λ n. refl) (λ m o f e. next (machine-step (s .heard .feedback .latest) entry m a))
     where
-      next : (n : Next) → Told-truly s (with-step s (stepped (heard-after (s .heard) a) n))
-      next (Goes m) = wants-follow s (with-step s (stepped (heard-after (s .heard) a) (Goes m)) .session) m (machine-want m) refl refl
+      next : (n : Next) → Told-truly s (with-step s (stepped (with-reading (s .heard) a) n))
+      next (Goes m) = wants-follow s (with-step s (stepped (with-reading (s .heard) a) (Goes m)) .session) m (machine-want m) refl refl
       next (Ends r) = refl
 
   -- ids, limits, record and caches stay
@@ -96,7 +96,7 @@ module _ (s : Session) (a : Answer) where
       same : Kept s s
       same = record { motor-id = refl; feedback-id = refl; limits = refl; record-kept = refl; replies = refl; acks = refl }
 
-      next : (n : Next) → Kept s (with-step s (stepped (heard-after (s .heard) a) n) .session)
+      next : (n : Next) → Kept s (with-step s (stepped (with-reading (s .heard) a) n) .session)
       next (Goes m) = record {
         motor-id = heard-same (λ (h : Heard). h .«motor_id») (λ t. refl) a;
         feedback-id = heard-same (λ (h : Heard). h .«feedback_id») (λ t. refl) a;
@@ -130,14 +130,14 @@ In-bounds before after = (before .heard .last .0 ≤ after .heard .last .0) × (
 pub answer-last : (s : Session) (a : Answer) → In-bounds s (answer-run s a .session)
 answer-last s a = answer-cases s a (λ t. In-bounds s (t .session)) (λ n. (le-refl _, λ b. b)) (λ m o f e. next (machine-step (s .heard .feedback .latest) (entry s a) m a) a e)
   where
-    later : (b : Answer) → answer-accepted (s .heard .last) b ≡ true → In-bounds s (record { heard = heard-after (s .heard) b; replies = s .replies; acks = s .acks; run = s .run })
+    later : (b : Answer) → answer-accepted (s .heard .last) b ≡ true → In-bounds s (record { heard = with-reading (s .heard) b; replies = s .replies; acks = s .acks; run = s .run })
     later (Reading t) e = let h = between (s .heard .last) t e in (h .0, λ b. h .1)
     later Sent e = (le-refl _, λ b. b)
     later SendTimeout e = (le-refl _, λ b. b)
     later SendFailed e = (le-refl _, λ b. b)
     later Slept e = (le-refl _, λ b. b)
 
-    next : (n : Next) (b : Answer) → answer-accepted (s .heard .last) b ≡ true → In-bounds s (with-step s (stepped (heard-after (s .heard) b) n) .session)
+    next : (n : Next) (b : Answer) → answer-accepted (s .heard .last) b ≡ true → In-bounds s (with-step s (stepped (with-reading (s .heard) b) n) .session)
     next (Goes m) b e = later b e
     next (Ends r) b e = later b e
 

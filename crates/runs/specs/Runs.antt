@@ -47,12 +47,12 @@ answer-accepted last SendFailed = true
 answer-accepted last Slept = true
 
 -- a reading that is taken becomes the last
-abbrev pub heard-after : Heard → Answer → Heard
-heard-after h (Reading t) = with-last h t
-heard-after h Sent = h
-heard-after h SendTimeout = h
-heard-after h SendFailed = h
-heard-after h Slept = h
+abbrev pub with-reading : Heard → Answer → Heard
+with-reading h (Reading t) = with-last h t
+with-reading h Sent = h
+with-reading h SendTimeout = h
+with-reading h SendFailed = h
+with-reading h Slept = h
 
 -- the next want, or the result, which closes the run
 abbrev pub stepped : Heard → Next → Step
@@ -67,7 +67,7 @@ abbrev pub machine-answer : Heard → Entry → Run → Machine → Answer → S
 machine-answer h entry run machine answer =
     cond (fits (machine-want machine) answer)
     (cond (answer-accepted (h .last) answer)
-    (stepped (heard-after h answer) (machine-step (h .feedback .latest) entry machine answer))
+    (stepped (with-reading h answer) (machine-step (h .feedback .latest) entry machine answer))
     (refused h run Error.reading))
     (refused h run Error.not-wanted)
 

@@ -79,8 +79,8 @@ fn accepts_answer(last: Instant, answer: Answer) -> bool
     }
 }
 
-fn heard_after(heard: Heard, answer: Answer) -> Heard
-    ensures { λ r. ⌜ r ≡ Spec.heard-after heard answer ⌝ }
+fn with_reading(heard: Heard, answer: Answer) -> Heard
+    ensures { λ r. ⌜ r ≡ Spec.with-reading heard answer ⌝ }
 {
     match answer {
         Answer::Reading(reading) => {
@@ -139,7 +139,7 @@ fn machine_answer(heard: Heard, entry: Entry, run: Run, machine: Machine, answer
     let feedback = heard.feedback;
     let latest = feedback.latest;
     stepped(
-        heard_after(heard, answer),
+        with_reading(heard, answer),
         machine_step(latest, entry, machine, answer),
     )
 }

@@ -28,8 +28,8 @@ refused-requires-2 c κs = search needs
 returns-2 : tie.Need-returns-2
 returns-2 c = let a = c .before .before .before .before .before .before .before .args in c .refused2 .ensures ∙ turned _ _ _ _ (c .before .before .accepts-answer .ensures) (c .before .if2 .taken) ∙ passed _ _ _ _ (c .before .before .before .before .before .fits2 .ensures ∙ ap (λ w. fits w (a .answer)) (c .before .before .before .before .before .before .machine-want .ensures)) (c .before .before .before .before .if1 .left)
 
-heard-after-requires : tie.Need-heard-after-requires
-heard-after-requires c κs = search needs
+with-reading-requires : tie.Need-with-reading-requires
+with-reading-requires c κs = search needs
 
 machine-step-requires : tie.Need-machine-step-requires
 machine-step-requires c κs = search needs
@@ -38,7 +38,7 @@ stepped-requires : tie.Need-stepped-requires
 stepped-requires c κs = search needs
 
 returns-3 : tie.Need-returns-3
-returns-3 c = let a = c .before .before .before .before .before .before .before .before .before .before .args in c .stepped .ensures ∙ ap (λ h. stepped h (c .before .machine-step .result)) (c .before .before .heard-after .ensures) ∙ ap (stepped _) (c .before .machine-step .ensures) ∙ passed _ _ _ _ (c .before .before .before .before .before .accepts-answer .ensures) (c .before .before .before .before .if2 .left) ∙ passed _ _ _ _ (c .before .before .before .before .before .before .before .before .fits2 .ensures ∙ ap (λ w. fits w (a .answer)) (c .before .before .before .before .before .before .before .before .before .machine-want .ensures)) (c .before .before .before .before .before .before .before .if1 .left)
+returns-3 c = let a = c .before .before .before .before .before .before .before .before .before .before .args in c .stepped .ensures ∙ ap (λ h. stepped h (c .before .machine-step .result)) (c .before .before .with-reading .ensures) ∙ ap (stepped _) (c .before .machine-step .ensures) ∙ passed _ _ _ _ (c .before .before .before .before .before .accepts-answer .ensures) (c .before .before .before .before .if2 .left) ∙ passed _ _ _ _ (c .before .before .before .before .before .before .before .before .fits2 .ensures ∙ ap (λ w. fits w (a .answer)) (c .before .before .before .before .before .before .before .before .before .machine-want .ensures)) (c .before .before .before .before .before .before .before .if1 .left)
 
 pub machine-answer-spec : {M : Type 1} → statement M
 machine-answer-spec =
@@ -51,7 +51,7 @@ machine-answer-spec =
     accepts-answer-requires
     refused-requires-2
     returns-2
-    heard-after-requires
+    with-reading-requires
     machine-step-requires
     stepped-requires
     returns-3)

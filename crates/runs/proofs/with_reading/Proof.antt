@@ -1,9 +1,9 @@
--- `runs::heard_after` meets its contract. Assumes nothing.
+-- `runs::with_reading` meets its contract. Assumes nothing.
 use mathlib.Core.Path.{sym, ap}
-use Rattle.runs.specs.Runs.{heard-after}
+use Rattle.runs.specs.Runs.{with-reading}
 use borrow.Author.Needs.{needs}
-use Rattle.runs.proofs.heard_after.Statement.{statement}
-use Rattle.runs.proofs.heard_after.Tie as tie
+use Rattle.runs.proofs.with_reading.Statement.{statement}
+use Rattle.runs.proofs.with_reading.Tie as tie
 
 enum-known-answer : tie.Need-enum-known-answer
 enum-known-answer c = search needs
@@ -21,7 +21,7 @@ enum-told-4 : tie.Need-enum-told-4
 enum-told-4 c = search needs
 
 returns : tie.Need-returns
-returns c = sym (ap (heard-after (c .before .before .before .args .heard)) (c .before .answer .given .1))
+returns c = sym (ap (with-reading (c .before .before .before .args .heard)) (c .before .answer .given .1))
 
 returns-2 : tie.Need-returns-2
 returns-2 c = search needs
@@ -35,8 +35,8 @@ returns-4 c = search needs
 returns-5 : tie.Need-returns-5
 returns-5 c = search needs
 
-pub heard-after-spec : {M : Type 1} → statement M
-heard-after-spec =
+pub with-reading-spec : {M : Type 1} → statement M
+with-reading-spec =
     tie.close
     (tie.spec
     enum-known-answer
