@@ -3,7 +3,6 @@ use mathlib.Core.Bool.{Bool, false, _&&_}
 use mathlib.Core.List.{List}
 use lib.Ieee.{Float, nan, inf, fin, le}
 use Rattle.float.specs.Arithmetic.{_⊖_}
-use Rattle.motor_core.specs.Error as Error
 use Rattle.motor_core.specs.declared.name.Name.{Name}
 use Rattle.models.specs.Counted.{models-of, model-names, keep}
 use Rattle.models.specs.declared.list.Maxima.{Maxima}

@@ -38,7 +38,7 @@ use Rattle.wait.specs.declared.ask.Asked.the-variants as Asked
 use Rattle.register_read.specs.Read.{found, read-by, get-by, get-step}
 use Rattle.register_read.specs.declared.ReadNext.{ReadNext}
 use Rattle.register_read.specs.declared.ReadNext.the-variants as Read
-use Rattle.confirmed_write.specs.Ack.{ack-timeout, ack-want, compared, ack-waited, ack-step}
+use Rattle.confirmed_write.specs.Ack.{ack-timeout, ack-want, ack-waited, ack-step}
 use Rattle.confirmed_write.specs.Ack as AckSpec
 use Rattle.confirmed_write.specs.Write.{write-want, write-sent, again, write-waited, write-step}
 use Rattle.confirmed_write.specs.declared.ack.AckWait.{AckWait}

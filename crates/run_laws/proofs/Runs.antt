@@ -1,5 +1,5 @@
 -- Each wait and each run wants no more than it says. Assumes nothing.
-use Prim.Native.Nat.{ℕ, _+_, _*_, _≤_}
+use Prim.Native.Nat.{ℕ, _≤_}
 use mathlib.Core.Path.{_≡_, refl}
 use mathlib.Core.List.{List, [], _∷_}
 use mathlib.Core.Option.{Option, none, some}
@@ -12,7 +12,7 @@ use Rattle.confirmed_write.specs.declared.ack.AckWait.the-variants as AckWait
 use Rattle.machine.specs.declared.Machine.{Machine}
 use Rattle.run_laws.specs.Bounds.{Within, Bounds}
 use Rattle.run_laws.specs.Budget.{machine-left, more-tries}
-use Rattle.run_laws.specs.Clock.{unheard, Moving}
+use Rattle.run_laws.specs.Clock.{unheard}
 use Rattle.run_laws.specs.Systems.{running}
 use Rattle.run_laws.specs.Trace.{Given, System, wants-from, after, any-want, total}
 use Rattle.run_laws.proofs.Budget.{wait-bounded, ack-bounded, run-bounded}

@@ -18,7 +18,7 @@ use Rattle.machine.specs.declared.Machine.{Machine}
 use Rattle.machine.specs.declared.Machine.the-variants.{GetRegister, WriteRegister, RequestFreshState, StoreParameters}
 use Rattle.run_laws.specs.Clock.{unheard, heard, Moving, polls}
 use Rattle.run_laws.specs.Systems.{waiting, acking, running}
-use Rattle.run_laws.specs.Trace.{Given, wants-from, after, a-send, a-sleep, any-want, total}
+use Rattle.run_laws.specs.Trace.{Given, wants-from, after, a-send, a-sleep, total}
 
 -- so many sends, whatever the clock does; so many sleeps, and ended after so many answers, if its sleeps move the clock
 pub record Within (start : Machine) (sends sleeps answers : ℕ) : Type 0 where
@@ -27,7 +27,7 @@ pub record Within (start : Machine) (sends sleeps answers : ℕ) : Type 0 where
   pub ends-after : (gs : List Given) → Moving running gs unheard (some start) → answers ≤ length gs → after running gs (some start) ≡ none
 
 pub record Bounds : Type 0 where
-  -- a wait sleeps no more often than fits its length, rounded up, if its own sleeps move the clock; one for an ack 25 times
+  -- a wait by itself, and one for an ack: sleeps that fit its length, rounded up, if they move the clock
   pub wait : (l : Duration) (finds : Given → Instant → Bool) (o : Instant) (gs : List Given) → Moving (waiting l finds) gs (heard o) (some (Checking o)) → total a-sleep (wants-from (waiting l finds) gs (some (Checking o))) ≤ polls (l .0)
   pub ack-wait : (value : RegisterValue) (gs : List Given) → Moving (acking value) gs unheard (some AckWait.Opening) → total a-sleep (wants-from (acking value) gs (some AckWait.Opening)) ≤ 25
   -- the runs

@@ -47,7 +47,7 @@ pub record Budget (κ : Clocked) : Type 1 where
   pub send : Message → ℕ
   pub sleep : ℕ
   pub wait-left : Duration → κ .Known → Wait → ℕ
-  -- no more than that of a wait which has just opened
+  -- what one that has just opened may want
   pub opened : Duration → ℕ
   pub opens : (l : Duration) (o : Instant) → wait-left l (κ .hear o) (Checking o) ≤ opened l
   -- the reading that ends the wait

@@ -7,7 +7,6 @@ use borrow.Author.Tests.{ltb-false, lt-ltb, le-ltb}
 use lib.Dec.{ltb}
 use lib.ListN.{length, List·getD-eq-default}
 use Rattle.cache.specs.Cache.{empty, slot-of, slot-place}
-use Rattle.cache.specs.declared.Entry.{Entry}
 use Rattle.cache.specs.declared.Entry.the-variants.{Empty}
 use Rattle.cache.specs.declared.Slot.{Slot}
 use Rattle.machine.specs.declared.Place.{Place}
