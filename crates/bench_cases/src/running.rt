@@ -64,43 +64,29 @@ fn told(turn: Turn) -> Session {
     turn.session
 }
 
-fn heard(session: Session, data: u64, reading: u64) -> Session {
-    let taking = take(session, data, reading);
+fn heard(session: Session, data: u64) -> Session {
+    let taking = take(session, data, 6);
     taking.session
 }
 
-// A read opens before its send: a reply that comes between the two counts.
-fn read_opens() {
-    text(b"a read, its reply before the sent:");
-    let session = told(get_register_u32(started(), 10, MINUTE));
-    let session = told(answer_run(session, Answer::Reading(Instant(5))));
-    let session = heard(session, REPLY, 6);
-    told(answer_run(session, Answer::Sent));
-    text(b"\n");
+// A step by its letter: a reply or an ack, stamped 6, or an answer, of which a reading is 5 or 7.
+fn step(session: Session, letter: u8) -> Session {
+    match letter {
+        b'r' => heard(session, REPLY),
+        b'a' => heard(session, ACK),
+        b'5' => told(answer_run(session, Answer::Reading(Instant(5)))),
+        b'7' => told(answer_run(session, Answer::Reading(Instant(7)))),
+        _ => told(answer_run(session, Answer::Sent)),
+    }
 }
 
-// A write opens after its send: an ack that comes before the opening does not count.
-fn write_opens() {
-    text(b"a write, its ack before the sent:");
-    let session = told(write_register_u32(started(), 10, 1));
-    let session = heard(session, ACK, 6);
-    let session = told(answer_run(session, Answer::Sent));
-    told(answer_run(session, Answer::Reading(Instant(7))));
-    text(b"\n");
-}
-
-// Register 10 holds a whole number; reading it as a float is sent all the same.
-fn type_tested_last() {
-    text(b"register 10 as a float, with its reply:");
-    let session = told(get_register_f32(started(), 10, Duration(0)));
-    let session = told(answer_run(session, Answer::Reading(Instant(5))));
-    let session = heard(session, REPLY, 5);
-    told(answer_run(session, Answer::Sent));
-    text(b"\nwithout:");
-    let session = told(get_register_f32(started(), 10, Duration(0)));
-    let session = told(answer_run(session, Answer::Reading(Instant(5))));
-    let session = told(answer_run(session, Answer::Sent));
-    told(answer_run(session, Answer::Reading(Instant(5))));
+// A run that has begun, and what each of its steps is told.
+fn play(name: &[u8], begun: Turn, letters: &[u8]) {
+    text(name);
+    let mut session = told(begun);
+    for i in 0..letters.len() {
+        session = step(session, letters[i]);
+    }
     text(b"\n");
 }
 
@@ -122,9 +108,29 @@ fn made_up(name: &[u8], rid: u8, timeout: Duration, ask: Ask, answer: Answer) {
 }
 
 pub(crate) fn run() {
-    read_opens();
-    write_opens();
-    type_tested_last();
+    // A read opens before its send: a reply that comes between the two counts.
+    play(
+        b"a read, its reply before the sent:",
+        get_register_u32(started(), 10, MINUTE),
+        b"5rs",
+    );
+    // A write opens after its send: an ack that comes before the opening does not count.
+    play(
+        b"a write, its ack before the sent:",
+        write_register_u32(started(), 10, 1),
+        b"as7",
+    );
+    // Register 10 holds a whole number; reading it as a float is sent all the same.
+    play(
+        b"register 10 as a float, with its reply:",
+        get_register_f32(started(), 10, Duration(0)),
+        b"5rs",
+    );
+    play(
+        b"without:",
+        get_register_f32(started(), 10, Duration(0)),
+        b"5s5",
+    );
     made_up(
         b"opening FFFFFFFFFFFFFFFF, length 3, reading 5:",
         10,
