@@ -84,7 +84,7 @@ module _ {κ : Clocked} (β : Budget κ) where
       go false e = β .before-deadline l k o (reading-of a) f e
   wait-falls l k (Napping o) a f = β .after-sleep l k o
 
-  wait-covers : (l : Duration) (k : κ .Known) (w : Wait) → weigh β (wait-want w) ≤ β .wait-left l k w
+  pub wait-covers : (l : Duration) (k : κ .Known) (w : Wait) → weigh β (wait-want w) ≤ β .wait-left l k w
   wait-covers l k (Checking o) = β .at-deadline l k o
   wait-covers l k (Napping o) = omega (arith, β .after-sleep l k o)
 
@@ -104,7 +104,7 @@ module _ {κ : Clocked} (β : Budget κ) where
       go (SendResult.Failed failure) = omega arith
   ask-falls m l k (Ask.Waiting w) a f = omega (arith, wait-falls l k w a f, asked-waited m l (known-after κ (wait-want w) a k) (wait-step l w a))
 
-  ask-covers : (m : Message) (l : Duration) (k : κ .Known) (q : Ask) → weigh β (ask-want m q) ≤ ask-left β m l k q
+  pub ask-covers : (m : Message) (l : Duration) (k : κ .Known) (q : Ask) → weigh β (ask-want m q) ≤ ask-left β m l k q
   ask-covers m l k Ask.Opening = omega arith
   ask-covers m l k (Ask.Sending o) = omega arith
   ask-covers m l k (Ask.Waiting w) = wait-covers l k w
@@ -179,7 +179,7 @@ module _ {κ : Clocked} (β : Budget κ) where
   store-falls k latest Store.Storing a f = omega (arith, store-sent-left k Store.Stored (send-result a))
   store-falls k latest Store.Stored a f = omega arith
 
-  store-covers : (k : κ .Known) (s : Store) → weigh β (store-want s) ≤ store-left β k s
+  pub store-covers : (k : κ .Known) (s : Store) → weigh β (store-want s) ≤ store-left β k s
   store-covers k (Store.Asking q) = omega (arith, ask-covers RequestFeedback state-timeout k q)
   store-covers k Store.Disabling = omega arith
   store-covers k Store.Disabled = omega arith
@@ -208,7 +208,7 @@ module _ {κ : Clocked} (β : Budget κ) where
   ack-falls k v e (AckWait.Waiting w) a f =
       omega (arith, wait-falls ack-timeout k w a f, ack-waited-left (known-after κ (wait-want w) a k) v e (wait-step ack-timeout w a))
 
-  ack-covers : (k : κ .Known) (q : AckWait) → weigh β (ack-want q) ≤ ack-left β k q
+  pub ack-covers : (k : κ .Known) (q : AckWait) → weigh β (ack-want q) ≤ ack-left β k q
   ack-covers k AckWait.Opening = omega arith
   ack-covers k (AckWait.Waiting w) = wait-covers ack-timeout k w
 
@@ -232,7 +232,7 @@ module _ {κ : Clocked} (β : Budget κ) where
       omega (arith, ack-falls k v e q a f, write-waited-left rid v (known-after κ (ack-want q) a k) n (ack-step v e q a))
   write-falls rid v k e (Write.Gap n) a f = omega arith
 
-  write-covers : (rid : ℕ) (v : RegisterValue) (k : κ .Known) (w : Write) → weigh β (write-want rid v w) ≤ write-left β rid v k w
+  pub write-covers : (rid : ℕ) (v : RegisterValue) (k : κ .Known) (w : Write) → weigh β (write-want rid v w) ≤ write-left β rid v k w
   write-covers rid v k (Write.Sending n) = omega arith
   write-covers rid v k (Write.Waiting n q) = omega (arith, ack-covers k q)
   write-covers rid v k (Write.Gap n) = omega arith

@@ -17,7 +17,7 @@ use Rattle.wait.specs.Wait.{late, poll-interval}
 use Rattle.wait.specs.declared.Wait.{Wait}
 use Rattle.wait.specs.declared.Wait.the-variants.{Checking, Napping}
 use Rattle.run_laws.specs.Budget.{Budget}
-use Rattle.run_laws.specs.Clock.{Clocked, known-after, fine, All-fine, Clock, heard, slept, moving, polls}
+use Rattle.run_laws.specs.Clock.{Clocked, known-after, fine, All-fine, Clock, heard, slept, Moved, Later, moving, polls}
 use Rattle.run_laws.specs.Trace.{Given, System}
 
 -- ---- messages alone
@@ -32,6 +32,7 @@ by-message weight = record {
   sleep = 0;
   wait-left = λ l k w. 0;
   opened = λ l. 0;
+  grows = λ l m h. omega arith;
   opens = λ l o. omega arith;
   at-deadline = λ l k o. omega arith;
   before-deadline = λ l k o t f e. omega arith;
@@ -56,25 +57,49 @@ all-fine σ (g ∷ gs) (some m) = (one-fine (σ .want m) (g .answer), subst (λ 
 
 -- ---- every want, by the time that is left
 
-polls-grow : (x y : ℕ) → x ≤ y → polls x ≤ polls y
+pub polls-grow : (x y : ℕ) → x ≤ y → polls x ≤ polls y
 polls-grow x y h = omega arith
+
+-- the least that a machine's next reading can be
+unfoldable pub furthest : Instant → List Duration → ℕ
+furthest r [] = r .0
+furthest r (d ∷ ds) = max (r .0 + d .0) (furthest r ds)
+
+abbrev least-after : Option Instant → List Duration → ℕ
+least-after none naps = 0
+least-after (some r) naps = furthest r naps
+
+abbrev least : Clock → ℕ
+least k = least-after (k .last) (k .naps)
+
+furthest-moved : (r : Instant) (ds : List Duration) (t : Instant) → r .0 ≤ t .0 → Moved r ds t → furthest r ds ≤ t .0
+unfolding furthest Moved
+furthest-moved r [] t o m = o
+furthest-moved r (d ∷ ds) t o m = omega (arith, furthest-moved r ds t o (m .1), m .0)
+
+least-later : (last : Option Instant) (naps : List Duration) (t : Instant) → Later last naps t → least-after last naps ≤ t .0
+least-later none naps t f = omega arith
+least-later (some r) naps t f = furthest-moved r naps t (f .0) (f .1)
 
 module _ (c s : ℕ) where
   -- a clock and a sleep for each interval, and the last clock
-  abbrev timed : Duration → Clock → Wait → ℕ
-  timed l k (Checking o) = c + (c + s) * polls (o .0 + l .0 - k .least)
-  timed l k (Napping o) = s + (c + (c + s) * polls (o .0 + l .0 - (k .last + 2_000_000)))
+  abbrev checks : Duration → Clock → Instant → ℕ
+  checks l k o = c + (c + s) * polls (o .0 + l .0 - least k)
 
-  pub timed-nap : (l : Duration) (k : Clock) (o t : Instant) → k .least ≤ t .0 → late o l t ≡ false → c + timed l (heard t) (Napping o) ≤ timed l k (Checking o)
+  abbrev timed : Duration → Clock → Wait → ℕ
+  timed l k (Checking o) = checks l k o
+  timed l k (Napping o) = s + checks l (slept poll-interval k) o
+
+  pub timed-nap : (l : Duration) (k : Clock) (o t : Instant) → Later (k .last) (k .naps) t → late o l t ≡ false → c + timed l (heard t) (Napping o) ≤ timed l k (Checking o)
+  unfolding furthest
   timed-nap l k o t f e =
       let before : t .0 < o .0 + l .0 = leb-false (o .0 + l .0) (t .0) e in
-      let more : 1 + polls (o .0 + l .0 - (t .0 + 2_000_000)) ≤ polls (o .0 + l .0 - k .least) = omega arith in
+      let later : least k ≤ t .0 = least-later (k .last) (k .naps) t f in
+      let more : 1 + polls (o .0 + l .0 - max (t .0 + 2_000_000) (t .0)) ≤ polls (o .0 + l .0 - least k) = omega arith in
       omega (arith, mul-le-mul-left (c + s) more)
 
-  pub timed-slept : (l : Duration) (k : Clock) (o : Instant) → s + timed l (slept poll-interval k) (Checking o) ≤ timed l k (Napping o)
-  timed-slept l k o = omega (arith, mul-le-mul-left (c + s) (polls-grow (o .0 + l .0 - max (k .least) (k .last + 2_000_000)) (o .0 + l .0 - (k .last + 2_000_000)) (omega arith)))
-
   pub timed-opens : (l : Duration) (o : Instant) → timed l (heard o) (Checking o) ≤ c + (c + s) * polls (l .0)
+  unfolding furthest
   timed-opens l o = omega (arith, mul-le-mul-left (c + s) (polls-grow (o .0 + l .0 - o .0) (l .0) (omega arith)))
 
   module _ (weight : Message → ℕ) where
@@ -85,8 +110,9 @@ module _ (c s : ℕ) where
       sleep = s;
       wait-left = timed;
       opened = λ l. c + (c + s) * polls (l .0);
+      grows = λ l m h. omega (arith, mul-le-mul-left (c + s) (polls-grow (l .0) (m .0) h));
       opens = timed-opens;
       at-deadline = λ l k o. omega arith;
       before-deadline = timed-nap;
-      after-sleep = timed-slept;
+      after-sleep = λ l k o. omega arith;
     }

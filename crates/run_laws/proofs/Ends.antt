@@ -64,7 +64,7 @@ module _ (l : Duration) (answer : Answer) where
       where
         go : (x : SendResult) → send-result answer ≡ x → ReadSaw l entry (Sending o) answer (read-by entry (ask-sent o x))
         go SendResult.Sent e = read-look-saw (Sending o) o refl
-        go (SendResult.Failed failure) e = inl e
+        go (SendResult.Failed failure) e = inl (o, refl, e)
     read-saw (Waiting (Checking o)) = go (late o l (reading-of answer)) refl
       where
         go : (b : Bool) → late o l (reading-of answer) ≡ b → ReadSaw l entry (Waiting (Checking o)) answer (read-by entry (ask-waited (cond b Waited.Late (Waited.Goes (Napping o)))))
@@ -104,7 +104,7 @@ module _ (l : Duration) (answer : Answer) where
       where
         go : (x : SendResult) → send-result answer ≡ x → StateSaw l latest (Sending o) answer (state-by latest (ask-sent o x))
         go SendResult.Sent e = state-look-saw (Sending o) o refl
-        go (SendResult.Failed failure) e = e
+        go (SendResult.Failed failure) e = (o, refl, e)
     state-saw (Waiting (Checking o)) = go (late o l (reading-of answer)) refl
       where
         go : (b : Bool) → late o l (reading-of answer) ≡ b → StateSaw l latest (Waiting (Checking o)) answer (state-by latest (ask-waited (cond b Waited.Late (Waited.Goes (Napping o)))))

@@ -49,6 +49,7 @@ pub record Budget (κ : Clocked) : Type 1 where
   pub wait-left : Duration → κ .Known → Wait → ℕ
   -- what one that has just opened may want
   pub opened : Duration → ℕ
+  pub grows : (l m : Duration) → l .0 ≤ m .0 → opened l ≤ opened m
   pub opens : (l : Duration) (o : Instant) → wait-left l (κ .hear o) (Checking o) ≤ opened l
   -- the reading that ends the wait
   pub at-deadline : (l : Duration) (k : κ .Known) (o : Instant) → clock ≤ wait-left l k (Checking o)

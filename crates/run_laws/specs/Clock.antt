@@ -1,5 +1,5 @@
 -- What a machine knows of the clock by its own readings, and where each of its sleeps moves the clock on. Definitions only.
-use Prim.Native.Nat.{ℕ, _+_, _/_, _≤_, max}
+use Prim.Native.Nat.{ℕ, _+_, _/_, _≤_}
 use mathlib.Core.List.{List, [], _∷_}
 use mathlib.Core.Option.{Option, none, some}
 use Rattle.motor_core.specs.declared.time.Instant.{Instant}
@@ -34,26 +34,35 @@ module _ (κ : Clocked) where
   All-fine σ (g ∷ gs) k none = Unit {0}
   All-fine σ (g ∷ gs) k (some m) = fine (σ .want m) (g .answer) k × All-fine σ gs (known-after (σ .want m) (g .answer) k) (σ .next g m)
 
--- the last reading that the machine took, and the least that its next one can be
+-- the last reading that the machine took, and its sleeps since
 pub record Clock : Type 0 where
-  pub last : ℕ
-  pub least : ℕ
+  pub last : Option Instant
+  pub naps : List Duration
 
 -- one that has taken no reading
 abbrev pub unheard : Clock
-unheard = record { last = 0; least = 0 }
+unheard = record { last = none; naps = [] }
 
 abbrev pub heard : Instant → Clock
-heard t = record { last = t .0; least = t .0 }
+heard t = record { last = some t; naps = [] }
 
--- a sleep that moves the clock on: the next reading is no less than its length above the last
 abbrev pub slept : Duration → Clock → Clock
-slept d k = record { last = k .last; least = max (k .least) (k .last + d .0) }
+slept d k = record { last = k .last; naps = d ∷ k .naps }
+
+-- each sleep moves the clock on: the reading after it is no less than its length above the one before it
+unfoldable pub Moved : Instant → List Duration → Instant → Type 0
+Moved r [] t = Unit {0}
+Moved r (d ∷ ds) t = (r .0 + d .0 ≤ t .0) × Moved r ds t
+
+-- and, as 'Turned back', 3, has it of every reading that a session takes, none is below the last
+abbrev pub Later : Option Instant → List Duration → Instant → Type 0
+Later none naps t = Unit {0}
+Later (some r) naps t = (r .0 ≤ t .0) × Moved r naps t
 
 abbrev pub moving : Clocked
-moving = record { Known = Clock; hear = heard; nap = slept; Fine = λ k t. k .least ≤ t .0 }
+moving = record { Known = Clock; hear = heard; nap = slept; Fine = λ k t. Later (k .last) (k .naps) t }
 
--- each reading of the machine is no less than its sleeps before it make it
+-- a machine's readings are in order, and its sleeps move the clock on
 abbrev pub Moving : (σ : System) → List Given → Clock → Option (σ .At) → Type 0
 Moving = All-fine moving
 

@@ -74,11 +74,15 @@ Past o l answer = o .0 + l .0 ≤ reading-of answer .0
 abbrev pub Unsent : Failure → Answer → Type 0
 Unsent failure answer = send-result answer ≡ SendResult.Failed failure
 
+-- of asking, where it sends
+abbrev pub AskUnsent : Ask → Failure → Answer → Type 0
+AskUnsent ask failure answer = (o : Instant) × (ask ≡ Sending o) × Unsent failure answer
+
 -- what a register read has seen with an answer, if it ends there
 abbrev pub ReadSaw : Duration → Entry → Ask → Answer → ReadNext → Type 0
 ReadSaw l entry ask answer (Read.Goes next) = Unit {0}
 ReadSaw l entry ask answer (Read.Got value) = (o : Instant) × (ask-opening ask ≡ some o) × Found o entry value
-ReadSaw l entry ask answer (Read.Failed failure) = Unsent failure answer ⊎ ((o : Instant) × (ask-opening ask ≡ some o) × Past o l answer × (failure ≡ Timeout))
+ReadSaw l entry ask answer (Read.Failed failure) = AskUnsent ask failure answer ⊎ ((o : Instant) × (ask-opening ask ≡ some o) × Past o l answer × (failure ≡ Timeout))
 
 -- a read of a type: besides, that what it found is of the type, or of the other
 abbrev pub GetSaw : RegisterDataType → Duration → Entry → Ask → Answer → ReadNext → Type 0
@@ -99,7 +103,7 @@ abbrev pub StateSaw : Duration → Latest → Ask → Answer → StateNext → T
 StateSaw l latest ask answer (State.Goes next) = Unit {0}
 StateSaw l latest ask answer (State.Got state) = (o : Instant) × (ask-opening ask ≡ some o) × Reported o latest state
 StateSaw l latest ask answer State.NoState = (o : Instant) × (ask-opening ask ≡ some o) × Past o l answer
-StateSaw l latest ask answer (State.Failed failure) = Unsent failure answer
+StateSaw l latest ask answer (State.Failed failure) = AskUnsent ask failure answer
 
 -- a confirmed write: an ack wait's end, for a failure that of the last try; or a send that failed
 abbrev pub WriteSaw : RegisterValue → Entry → Write → Answer → WriteNext → Type 0

@@ -9,7 +9,7 @@ use Rattle.want.specs.declared.Want.{Want}
 use Rattle.want.specs.declared.Want.the-variants.{Clock, Send, Sleep}
 use Rattle.want.specs.declared.message.Message.{Message}
 
--- an answer, with what a look in that call finds
+-- an answer, with what is there for a look in that call
 pub record Given : Type 0 where
   pub answer : Answer
   pub latest : Latest
@@ -40,9 +40,6 @@ abbrev pub counted : (clock : ℕ) (send : Message → ℕ) (sleep : ℕ) → Wa
 counted clock send sleep Clock = clock
 counted clock send sleep (Send message) = send message
 counted clock send sleep (Sleep length) = sleep
-
-abbrev pub a-send : Want → ℕ
-a-send = counted 0 (λ message. 1) 0
 
 abbrev pub a-sleep : Want → ℕ
 a-sleep = counted 0 (λ message. 0) 1

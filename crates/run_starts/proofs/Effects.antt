@@ -7,7 +7,7 @@ use Rattle.machine.specs.declared.Machine.{Machine}
 use Rattle.session.specs.declared.Phase.{Phase}
 use Rattle.session.specs.declared.Phase.the-variants.{Closed, Open}
 use Rattle.session.specs.declared.Session.{Session}
-use Rattle.runs.specs.Effects.{Told-truly}
+use Rattle.runs.specs.Effects.{Told-truly, Kept}
 use Rattle.runs.specs.Runs.{wanted}
 use Rattle.runs.specs.declared.Told.the-variants.{Refused}
 use Rattle.runs.specs.declared.Turn.{Turn}
@@ -33,15 +33,12 @@ module _ (s : Session) (start : Start) where
   pub start-follows : Told-truly s (begin s start)
   start-follows = start-cases (Told-truly s) (λ n. refl) (λ m c e. wants-follow s (record { heard = s .heard; replies = s .replies; acks = s .acks; run = record { phase = Open m } }) m (machine-want m) refl refl)
 
-  -- no reading is taken, and nothing is heard
-  pub start-keeps : begin s start .session .heard ≡ s .heard
-  start-keeps = start-cases (λ t. t .session .heard ≡ s .heard) (λ n. refl) (λ m c e. refl)
+  -- no reading is taken
+  pub start-last : begin s start .session .heard .last ≡ s .heard .last
+  start-last = refl
 
-  pub start-keeps-replies : begin s start .session .replies ≡ s .replies
-  start-keeps-replies = start-cases (λ t. t .session .replies ≡ s .replies) (λ n. refl) (λ m c e. refl)
-
-  pub start-keeps-acks : begin s start .session .acks ≡ s .acks
-  start-keeps-acks = start-cases (λ t. t .session .acks ≡ s .acks) (λ n. refl) (λ m c e. refl)
+  pub start-keeps : Kept s (begin s start .session)
+  start-keeps = record { motor-id = refl; feedback-id = refl; limits = refl; record-kept = refl; replies = refl; acks = refl }
 
 -- a refusal
 pub start-refused : (s : Session) (start : Start) (n : ℕ) → begin s start .told ≡ Refused n → begin s start .session ≡ s

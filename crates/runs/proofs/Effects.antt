@@ -16,10 +16,11 @@ use Rattle.machine.specs.Machine.{machine-want, machine-step}
 use Rattle.machine.specs.declared.Machine.{Machine}
 use Rattle.machine.specs.declared.Next.{Next}
 use Rattle.machine.specs.declared.Next.the-variants.{Goes, Ends}
-use Rattle.session.specs.Session.{with-last}
+use Rattle.session.specs.Session.{closed, with-last}
 use Rattle.session.specs.declared.Heard.{Heard}
 use Rattle.session.specs.declared.Phase.{Phase}
 use Rattle.session.specs.declared.Phase.the-variants.{Closed, Open}
+use Rattle.session.specs.declared.Run.{Run}
 use Rattle.session.specs.declared.Session.{Session}
 use Rattle.runs.specs.Effects.{Follows, Told-truly, Kept}
 use Rattle.runs.specs.Runs.{wanted, answer-accepted, with-reading, stepped, refused, answer-by, phase-place, entry-at, with-step, answer-run}
@@ -44,46 +45,44 @@ heard-same part e Slept = refl
 
 -- ---- an answer is refused, or taken by an open machine that wants its kind
 
+-- what the run looks at
+abbrev pub entry : Session → Entry
+entry s = entry-at (s .replies) (s .acks) (phase-place (s .run .phase))
+
 module _ (s : Session) (a : Answer) where
-  abbrev pub entry : Entry
-  entry = entry-at (s .replies) (s .acks) (phase-place (s .run .phase))
+  abbrev pub taken-by : Machine → Step
+  taken-by m = stepped (with-reading (s .heard) a) (machine-step (s .heard .feedback .latest) (entry s) m a)
 
-  abbrev pub stepped-by : Machine → Turn
-  stepped-by m = with-step s (stepped (with-reading (s .heard) a) (machine-step (s .heard .feedback .latest) entry m a))
+  abbrev refused-with : ℕ → Step
+  refused-with n = refused (s .heard) (s .run) n
 
-  abbrev turned : ℕ → Turn
-  turned n = with-step s (refused (s .heard) (s .run) n)
-
-  pub answer-cases : (P : Turn → Type 0) → ((n : ℕ) → P (record { session = s; told = Refused n })) → ((m : Machine) → s .run .phase ≡ Open m → fits (machine-want m) a ≡ true → answer-accepted (s .heard .last) a ≡ true → P (stepped-by m)) → P (answer-run s a)
+  pub answer-cases : (P : Turn → Type 0) → ((n : ℕ) → P (record { session = s; told = Refused n })) → ((m : Machine) → s .run .phase ≡ Open m → fits (machine-want m) a ≡ true → answer-accepted (s .heard .last) a ≡ true → P (with-step s (taken-by m))) → P (answer-run s a)
   unfolding answer-run
   answer-cases P no-turn turn = by (s .run .phase) refl
     where
-      read : (m : Machine) → s .run .phase ≡ Open m → fits (machine-want m) a ≡ true → (b : Bool) → answer-accepted (s .heard .last) a ≡ b → P (with-step s (cond b (stepped (with-reading (s .heard) a) (machine-step (s .heard .feedback .latest) entry m a)) (refused (s .heard) (s .run) Error.reading)))
+      read : (m : Machine) → s .run .phase ≡ Open m → fits (machine-want m) a ≡ true → (b : Bool) → answer-accepted (s .heard .last) a ≡ b → P (with-step s (cond b (taken-by m) (refused-with Error.reading)))
       read m o f true e = turn m o f e
       read m o f false e = no-turn Error.reading
 
-      fit : (m : Machine) → s .run .phase ≡ Open m → (b : Bool) → fits (machine-want m) a ≡ b → P (with-step s (cond b (cond (answer-accepted (s .heard .last) a) (stepped (with-reading (s .heard) a) (machine-step (s .heard .feedback .latest) entry m a)) (refused (s .heard) (s .run) Error.reading)) (refused (s .heard) (s .run) Error.not-wanted)))
+      fit : (m : Machine) → s .run .phase ≡ Open m → (b : Bool) → fits (machine-want m) a ≡ b → P (with-step s (cond b (cond (answer-accepted (s .heard .last) a) (taken-by m) (refused-with Error.reading)) (refused-with Error.not-wanted)))
       fit m o true e = read m o e (answer-accepted (s .heard .last) a) refl
       fit m o false e = no-turn Error.not-wanted
 
-      by : (p : Phase) → s .run .phase ≡ p → P (with-step s (answer-by p (s .heard) entry (s .run) a))
+      by : (p : Phase) → s .run .phase ≡ p → P (with-step s (answer-by p (s .heard) (entry s) (s .run) a))
       by Closed e = no-turn Error.not-wanted
       by (Open m) e = fit m e (fits (machine-want m) a) refl
 
   -- one that is taken steps the machine, with the record and the entry that are there
-  pub answer-taken : (m : Machine) → s .run .phase ≡ Open m → fits (machine-want m) a ≡ true → answer-accepted (s .heard .last) a ≡ true → answer-run s a ≡ stepped-by m
+  pub answer-taken : (m : Machine) → s .run .phase ≡ Open m → fits (machine-want m) a ≡ true → answer-accepted (s .heard .last) a ≡ true → answer-run s a ≡ with-step s (taken-by m)
   unfolding answer-run
   answer-taken m o f e =
-      ap (λ (p : Phase). with-step s (answer-by p (s .heard) entry (s .run) a)) o
-      ∙ ap (λ (b : Bool). with-step s (cond b (cond (answer-accepted (s .heard .last) a) taken (refused (s .heard) (s .run) Error.reading)) (refused (s .heard) (s .run) Error.not-wanted))) f
-      ∙ ap (λ (b : Bool). with-step s (cond b taken (refused (s .heard) (s .run) Error.reading))) e
-    where
-      taken : Step
-      taken = stepped (with-reading (s .heard) a) (machine-step (s .heard .feedback .latest) entry m a)
+      ap (λ (p : Phase). with-step s (answer-by p (s .heard) (entry s) (s .run) a)) o
+      ∙ ap (λ (b : Bool). with-step s (cond b (cond (answer-accepted (s .heard .last) a) (taken-by m) (refused-with Error.reading)) (refused-with Error.not-wanted))) f
+      ∙ ap (λ (b : Bool). with-step s (cond b (taken-by m) (refused-with Error.reading))) e
 
   -- what it tells is what the run then wants
   pub answer-follows : Told-truly s (answer-run s a)
-  answer-follows = answer-cases (Told-truly s) (λ n. refl) (λ m o f e. next (machine-step (s .heard .feedback .latest) entry m a))
+  answer-follows = answer-cases (Told-truly s) (λ n. refl) (λ m o f e. next (machine-step (s .heard .feedback .latest) (entry s) m a))
     where
       next : (n : Next) → Told-truly s (with-step s (stepped (with-reading (s .heard) a) n))
       next (Goes m) = wants-follow s (with-step s (stepped (with-reading (s .heard) a) (Goes m)) .session) m (machine-want m) refl refl
@@ -91,28 +90,24 @@ module _ (s : Session) (a : Answer) where
 
   -- ids, limits, record and caches stay
   pub answer-keeps : Kept s (answer-run s a .session)
-  answer-keeps = answer-cases (λ t. Kept s (t .session)) (λ n. same) (λ m o f e. next (machine-step (s .heard .feedback .latest) entry m a))
+  answer-keeps = answer-cases (λ t. Kept s (t .session)) (λ n. same) (λ m o f e. next (machine-step (s .heard .feedback .latest) (entry s) m a))
     where
       same : Kept s s
       same = record { motor-id = refl; feedback-id = refl; limits = refl; record-kept = refl; replies = refl; acks = refl }
 
+      kept : (run : Run) → Kept s (record { heard = with-reading (s .heard) a; replies = s .replies; acks = s .acks; run = run })
+      kept run = record {
+        motor-id = heard-same (λ (h : Heard). h .«motor_id») (λ t. refl) a;
+        feedback-id = heard-same (λ (h : Heard). h .«feedback_id») (λ t. refl) a;
+        limits = heard-same (λ (h : Heard). h .limits) (λ t. refl) a;
+        record-kept = heard-same (λ (h : Heard). h .feedback) (λ t. refl) a;
+        replies = refl;
+        acks = refl;
+      }
+
       next : (n : Next) → Kept s (with-step s (stepped (with-reading (s .heard) a) n) .session)
-      next (Goes m) = record {
-        motor-id = heard-same (λ (h : Heard). h .«motor_id») (λ t. refl) a;
-        feedback-id = heard-same (λ (h : Heard). h .«feedback_id») (λ t. refl) a;
-        limits = heard-same (λ (h : Heard). h .limits) (λ t. refl) a;
-        record-kept = heard-same (λ (h : Heard). h .feedback) (λ t. refl) a;
-        replies = refl;
-        acks = refl;
-      }
-      next (Ends r) = record {
-        motor-id = heard-same (λ (h : Heard). h .«motor_id») (λ t. refl) a;
-        feedback-id = heard-same (λ (h : Heard). h .«feedback_id») (λ t. refl) a;
-        limits = heard-same (λ (h : Heard). h .limits) (λ t. refl) a;
-        record-kept = heard-same (λ (h : Heard). h .feedback) (λ t. refl) a;
-        replies = refl;
-        acks = refl;
-      }
+      next (Goes m) = kept (record { phase = Open m })
+      next (Ends r) = kept closed
 
 -- ---- a refusal
 
@@ -128,7 +123,7 @@ abbrev In-bounds : Session → Session → Type 0
 In-bounds before after = (before .heard .last .0 ≤ after .heard .last .0) × (before .heard .last .0 ≤ 2 ^ 62 → after .heard .last .0 ≤ 2 ^ 62)
 
 pub answer-last : (s : Session) (a : Answer) → In-bounds s (answer-run s a .session)
-answer-last s a = answer-cases s a (λ t. In-bounds s (t .session)) (λ n. (le-refl _, λ b. b)) (λ m o f e. next (machine-step (s .heard .feedback .latest) (entry s a) m a) a e)
+answer-last s a = answer-cases s a (λ t. In-bounds s (t .session)) (λ n. (le-refl _, λ b. b)) (λ m o f e. next (machine-step (s .heard .feedback .latest) (entry s) m a) a e)
   where
     later : (b : Answer) → answer-accepted (s .heard .last) b ≡ true → In-bounds s (record { heard = with-reading (s .heard) b; replies = s .replies; acks = s .acks; run = s .run })
     later (Reading t) e = let h = between (s .heard .last) t e in (h .0, λ b. h .1)
