@@ -14,6 +14,13 @@ pub struct Slot {
     pub entry: Entry,
 }
 
+// The one slot that a run looks at: a register's among the replies, or among the acks.
+pub enum Place {
+    Nowhere,
+    Reply(u8),
+    Ack(u8),
+}
+
 pub enum Cached {
     Entry(Entry),
     Refused(u8),

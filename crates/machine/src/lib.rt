@@ -2,10 +2,17 @@
 ghost use mathlib.Core.Path.{_≡_};
 ghost use Rattle.machine.specs.Machine as Spec;
 use cache::Entry;
+use cache::Place;
 use confirmed_write::Write;
 use confirmed_write::WriteNext;
 use confirmed_write::write_step;
 use confirmed_write::write_want;
+use control_mode::ControlMode;
+use ensure_mode::Switch;
+use ensure_mode::SwitchNext;
+use ensure_mode::switch_place;
+use ensure_mode::switch_step;
+use ensure_mode::switch_want;
 use feedback::Latest;
 use feedback::MotorFeedbackState;
 use fresh_state::StateNext;
@@ -32,6 +39,7 @@ pub enum Machine {
     WriteRegister(u8, RegisterValue, Write),
     RequestFreshState(Duration, Ask),
     StoreParameters(Store),
+    EnsureControlMode(ControlMode, Duration, Switch),
 }
 
 pub enum RunResult {
@@ -47,13 +55,6 @@ pub enum Next {
     Ends(RunResult),
 }
 
-// The one slot that a machine looks at: a register's among the replies, or among the acks.
-pub enum Place {
-    Nowhere,
-    Reply(u8),
-    Ack(u8),
-}
-
 pub fn machine_want(machine: Machine) -> Want
     ensures { λ r. ⌜ r ≡ Spec.machine-want machine ⌝ }
 {
@@ -62,6 +63,7 @@ pub fn machine_want(machine: Machine) -> Want
         Machine::WriteRegister(rid, value, write) => write_want(rid, value, write),
         Machine::RequestFreshState(_, ask) => state_want(ask),
         Machine::StoreParameters(store) => store_want(store),
+        Machine::EnsureControlMode(mode, _, switch) => switch_want(mode, switch),
     }
 }
 
@@ -73,6 +75,7 @@ pub fn machine_place(machine: Machine) -> Place
         Machine::WriteRegister(rid, _, _) => Place::Ack(rid),
         Machine::RequestFreshState(_, _) => Place::Nowhere,
         Machine::StoreParameters(_) => Place::Nowhere,
+        Machine::EnsureControlMode(_, _, switch) => switch_place(switch),
     }
 }
 
@@ -117,6 +120,16 @@ fn after_store(next: StoreNext) -> Next
     }
 }
 
+fn after_switch(mode: ControlMode, timeout: Duration, next: SwitchNext) -> Next
+    ensures { λ r. ⌜ r ≡ Spec.after-switch mode timeout next ⌝ }
+{
+    match next {
+        SwitchNext::Goes(switch) => Next::Goes(Machine::EnsureControlMode(mode, timeout, switch)),
+        SwitchNext::Done => Next::Ends(RunResult::Done),
+        SwitchNext::Failed(failure) => Next::Ends(RunResult::Failed(failure)),
+    }
+}
+
 // With the latest record, and the entry at the machine's place.
 pub fn machine_step(latest: Latest, entry: Entry, machine: Machine, answer: Answer) -> Next
     ensures { λ r. ⌜ r ≡ Spec.machine-step latest entry machine answer ⌝ }
@@ -135,5 +148,10 @@ pub fn machine_step(latest: Latest, entry: Entry, machine: Machine, answer: Answ
             after_state(timeout, state_step(timeout, latest, ask, answer))
         }
         Machine::StoreParameters(store) => after_store(store_step(latest, store, answer)),
+        Machine::EnsureControlMode(mode, timeout, switch) => after_switch(
+            mode,
+            timeout,
+            switch_step(mode, timeout, entry, switch, answer),
+        ),
     }
 }

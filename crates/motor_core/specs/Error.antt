@@ -37,6 +37,10 @@ run-open = 8
 abbrev pub not-wanted : ℕ
 not-wanted = 9
 
+-- modes that are not 1 to 4
+abbrev pub mode : ℕ
+mode = 10
+
 -- queries that are not taken
 abbrev pub query : ℕ
 query = 11

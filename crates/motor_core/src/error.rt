@@ -17,6 +17,8 @@ pub const RUN_OPEN: u8 = 8;
 
 pub const NOT_WANTED: u8 = 9;
 
+pub const MODE: u8 = 10;
+
 pub const QUERY: u8 = 11;
 
 pub const MODEL: u8 = 12;

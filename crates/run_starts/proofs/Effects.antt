@@ -19,14 +19,14 @@ use Rattle.run_starts.specs.declared.Start.the-variants as Start
 -- it is refused, or opens a run where none is open
 
 module _ (s : Session) (start : Start) where
-  pub start-cases : (P : Turn → Type 0) → ((n : ℕ) → P (record { session = s; told = Refused n })) → ((m : Machine) → s .run .phase ≡ Closed → start ≡ Start.Accepted m → P (with-opened s (opened (wanted (s .heard .«motor_id») (machine-want m)) (record { phase = Open m })))) → P (begin s start)
+  pub start-cases : (P : Turn → Type 0) → ((n : ℕ) → P (record { session = s; told = Refused n })) → ((m : Machine) → s .run .phase ≡ Closed → start ≡ Start.Accepted m → P (with-opened s (opened (wanted (s .heard) (machine-want m)) (record { phase = Open m })))) → P (begin s start)
   start-cases P no-turn turn = by (s .run .phase) refl
     where
-      go : s .run .phase ≡ Closed → (x : Start) → start ≡ x → P (with-opened s (first-want (s .heard .«motor_id») (s .run) x))
+      go : s .run .phase ≡ Closed → (x : Start) → start ≡ x → P (with-opened s (first-want (s .heard) (s .run) x))
       go c (Start.Refused n) e = no-turn n
       go c (Start.Accepted m) e = turn m c e
 
-      by : (p : Phase) → s .run .phase ≡ p → P (with-opened s (start-by p (s .heard .«motor_id») (s .run) start))
+      by : (p : Phase) → s .run .phase ≡ p → P (with-opened s (start-by p (s .heard) (s .run) start))
       by Closed e = go e start refl
       by (Open m) e = no-turn Error.run-open
 

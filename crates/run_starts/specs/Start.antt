@@ -15,11 +15,16 @@ use Rattle.registers.specs.declared.RegisterInfo.{RegisterInfo}
 use Rattle.registers.specs.declared.RegisterInfo.the-variants.{Unknown, Known}
 use Rattle.registers.specs.declared.RegisterValue.{RegisterValue}
 use Rattle.registers.specs.declared.RegisterValue.the-variants as Value
+use Rattle.control_mode.specs.Mode.{control-mode}
+use Rattle.control_mode.specs.declared.ModeCheck.{ModeCheck}
+use Rattle.control_mode.specs.declared.ModeCheck.the-variants as Mode
 use Rattle.wait.specs.declared.ask.Ask.the-variants.{Opening}
 use Rattle.confirmed_write.specs.Write.{first-try}
 use Rattle.fresh_state.specs.declared.store.Store.the-variants.{Asking}
+use Rattle.ensure_mode.specs.declared.Switch.the-variants.{Starting}
 use Rattle.machine.specs.Machine.{machine-want}
-use Rattle.machine.specs.declared.Machine.the-variants.{GetRegister, WriteRegister, RequestFreshState, StoreParameters}
+use Rattle.machine.specs.declared.Machine.the-variants.{GetRegister, WriteRegister, RequestFreshState, StoreParameters, EnsureControlMode}
+use Rattle.session.specs.declared.Heard.{Heard}
 use Rattle.session.specs.declared.Run.{Run}
 use Rattle.session.specs.declared.Phase.{Phase}
 use Rattle.session.specs.declared.Phase.the-variants.{Closed, Open}
@@ -59,21 +64,29 @@ fresh-state-start timeout = cond (timeout-accepted timeout) (Accepted (RequestFr
 abbrev pub store-start : Start
 store-start = Accepted (StoreParameters (Asking Opening))
 
+-- a mode switch: 10, then 7
+abbrev pub mode-by : ModeCheck → Duration → Start
+mode-by Mode.Unknown timeout = Refused Error.mode
+mode-by (Mode.Known mode) timeout = cond (timeout-accepted timeout) (Accepted (EnsureControlMode mode timeout Starting)) (Refused Error.timeout)
+
+abbrev pub mode-start : ℕ → Duration → Start
+mode-start mode timeout = mode-by (control-mode mode) timeout
+
 abbrev pub opened : Told → Run → Opened
 opened told run = record { told = told; run = run }
 
 -- where no run is open: the run is, and its first want is told; or the refusal
-abbrev pub first-want : ℕ → Run → Start → Opened
-first-want motor run (Refused number) = opened (Told.Refused number) run
-first-want motor run (Accepted machine) = opened (wanted motor (machine-want machine)) (record { phase = Open machine })
+abbrev pub first-want : Heard → Run → Start → Opened
+first-want heard run (Refused number) = opened (Told.Refused number) run
+first-want heard run (Accepted machine) = opened (wanted heard (machine-want machine)) (record { phase = Open machine })
 
 -- 8 comes before all else
-abbrev pub start-by : Phase → ℕ → Run → Start → Opened
-start-by Closed motor run start = first-want motor run start
-start-by (Open machine) motor run start = opened (Told.Refused Error.run-open) run
+abbrev pub start-by : Phase → Heard → Run → Start → Opened
+start-by Closed heard run start = first-want heard run start
+start-by (Open machine) heard run start = opened (Told.Refused Error.run-open) run
 
-abbrev pub start-step : ℕ → Run → Start → Opened
-start-step motor run start = start-by (run .phase) motor run start
+abbrev pub start-step : Heard → Run → Start → Opened
+start-step heard run start = start-by (run .phase) heard run start
 
 -- nothing but the run changes; no reading is taken
 abbrev pub with-opened : Session → Opened → Turn
@@ -83,7 +96,7 @@ with-opened s o = record {
 }
 
 abbrev pub begin : Session → Start → Turn
-begin s start = with-opened s (start-step (s .heard .«motor_id») (s .run) start)
+begin s start = with-opened s (start-step (s .heard) (s .run) start)
 
 unfoldable pub get-register-u32 : Session → ℕ → Duration → Turn
 get-register-u32 s rid timeout = begin s (get-start UInt32 rid timeout)
@@ -102,3 +115,6 @@ request-fresh-state s timeout = begin s (fresh-state-start timeout)
 
 unfoldable pub store-parameters : Session → Turn
 store-parameters s = begin s store-start
+
+unfoldable pub ensure-control-mode : Session → ℕ → Duration → Turn
+ensure-control-mode s mode timeout = begin s (mode-start mode timeout)

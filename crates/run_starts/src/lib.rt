@@ -2,10 +2,14 @@
 ghost use mathlib.Core.Path.{_≡_};
 ghost use Rattle.run_starts.specs.Start as Spec;
 use confirmed_write::first_try;
+use control_mode::ModeCheck;
+use control_mode::control_mode;
+use ensure_mode::Switch;
 use float::F32Bits;
 use fresh_state::store::Store;
 use machine::Machine;
 use machine::machine_want;
+use motor_core::error::MODE;
 use motor_core::error::READ_ONLY;
 use motor_core::error::REGISTER;
 use motor_core::error::RUN_OPEN;
@@ -24,6 +28,7 @@ use registers::value_from_bits;
 use runs::Told;
 use runs::Turn;
 use runs::wanted;
+use session::Heard;
 use session::Phase;
 use session::Run;
 use session::Session;
@@ -42,8 +47,8 @@ struct Opened {
 }
 
 // A start where no run is open.
-fn first_want(motor_id: u16, run: Run, start: Start) -> Opened
-    ensures { λ r. ⌜ r ≡ Spec.first-want «motor_id» run start ⌝ }
+fn first_want(heard: Heard, run: Run, start: Start) -> Opened
+    ensures { λ r. ⌜ r ≡ Spec.first-want heard run start ⌝ }
 {
     match start {
         Start::Refused(number) => Opened {
@@ -51,7 +56,7 @@ fn first_want(motor_id: u16, run: Run, start: Start) -> Opened
             run,
         },
         Start::Accepted(machine) => Opened {
-            told: wanted(motor_id, machine_want(machine)),
+            told: wanted(heard, machine_want(machine)),
             run: Run {
                 phase: Phase::Open(machine),
             },
@@ -59,12 +64,12 @@ fn first_want(motor_id: u16, run: Run, start: Start) -> Opened
     }
 }
 
-fn start_step(motor_id: u16, run: Run, start: Start) -> Opened
-    ensures { λ r. ⌜ r ≡ Spec.start-step «motor_id» run start ⌝ }
+fn start_step(heard: Heard, run: Run, start: Start) -> Opened
+    ensures { λ r. ⌜ r ≡ Spec.start-step heard run start ⌝ }
 {
     let phase = run.phase;
     match phase {
-        Phase::Closed => first_want(motor_id, run, start),
+        Phase::Closed => first_want(heard, run, start),
         Phase::Open(_) => Opened {
             told: Told::Refused(RUN_OPEN),
             run,
@@ -78,7 +83,7 @@ fn begin(session: Session, start: Start) -> Turn
     let mut session = session;
     let heard = session.heard;
     let run = session.run;
-    let step = start_step(heard.motor_id, run, start);
+    let step = start_step(heard, run, start);
     let run_after = step.run;
     let told = step.told;
     session.run = run_after;
@@ -135,6 +140,21 @@ fn fresh_state_start(timeout: Duration) -> Start
     Start::Accepted(Machine::RequestFreshState(timeout, Ask::Opening))
 }
 
+fn mode_start(mode: u32, timeout: Duration) -> Start
+    ensures { λ r. ⌜ r ≡ Spec.mode-start mode timeout ⌝ }
+{
+    let check = control_mode(mode);
+    match check {
+        ModeCheck::Unknown => Start::Refused(MODE),
+        ModeCheck::Known(known) => {
+            if !accepts_timeout(timeout) {
+                return Start::Refused(TIMEOUT);
+            }
+            Start::Accepted(Machine::EnsureControlMode(known, timeout, Switch::Starting))
+        }
+    }
+}
+
 // Reads a register that holds a whole number; refused with 8, 4 or 7.
 pub fn get_register_u32(session: Session, rid: u8, timeout: Duration) -> Turn
     ensures { λ r. ⌜ r ≡ Spec.get-register-u32 session rid timeout ⌝ }
@@ -181,4 +201,11 @@ pub fn store_parameters(session: Session) -> Turn
         session,
         Start::Accepted(Machine::StoreParameters(Store::Asking(Ask::Opening))),
     )
+}
+
+// Switches the motor to a control mode, 1 to 4; refused with 8, 10 or 7.
+pub fn ensure_control_mode(session: Session, mode: u32, timeout: Duration) -> Turn
+    ensures { λ r. ⌜ r ≡ Spec.ensure-control-mode session mode timeout ⌝ }
+{
+    begin(session, mode_start(mode, timeout))
 }

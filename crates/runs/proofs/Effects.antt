@@ -30,7 +30,7 @@ use Rattle.runs.specs.declared.Told.the-variants.{Refused}
 use Rattle.runs.specs.declared.Turn.{Turn}
 
 -- what is told of an open machine is what it wants
-pub wants-follow : (before after : Session) (m : Machine) (w : Want) → machine-want m ≡ w → after .run ≡ record { phase = Open m } → Follows before (wanted (after .heard .«motor_id») w) after
+pub wants-follow : (before after : Session) (m : Machine) (w : Want) → machine-want m ≡ w → after .run ≡ record { phase = Open m } → Follows before (wanted (after .heard) w) after
 wants-follow before after m Clock e o = record { machine = m; is-open = o; tells = ap (wanted _) (sym e) }
 wants-follow before after m (Send message) e o = record { machine = m; is-open = o; tells = ap (wanted _) (sym e) }
 wants-follow before after m (Sleep length) e o = record { machine = m; is-open = o; tells = ap (wanted _) (sym e) }

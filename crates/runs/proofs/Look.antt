@@ -9,8 +9,8 @@ use lib.ListN.{length, List·getD-eq-default}
 use Rattle.cache.specs.Cache.{empty, slot-of, slot-place}
 use Rattle.cache.specs.declared.Entry.the-variants.{Empty}
 use Rattle.cache.specs.declared.Slot.{Slot}
-use Rattle.machine.specs.declared.Place.{Place}
-use Rattle.machine.specs.declared.Place.the-variants.{Nowhere, Reply, Ack}
+use Rattle.cache.specs.declared.Place.{Place}
+use Rattle.cache.specs.declared.Place.the-variants.{Nowhere, Reply, Ack}
 use Rattle.runs.specs.Runs.{entry-of, entry-at}
 use Rattle.runs.specs.Slots.{place-register, picked, entry-between}
 

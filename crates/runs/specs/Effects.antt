@@ -1,9 +1,9 @@
 -- What a start or an answer leaves of a session, by what it tells, for laws and claims. Definitions only.
-use Prim.Native.Nat.{ℕ}
 use mathlib.Core.Path.{_≡_}
 use Rattle.machine.specs.Machine.{machine-want}
 use Rattle.machine.specs.declared.Machine.{Machine}
 use Rattle.session.specs.Session.{closed}
+use Rattle.session.specs.declared.Heard.{Heard}
 use Rattle.session.specs.declared.Run.{Run}
 use Rattle.session.specs.declared.Phase.the-variants.{Open}
 use Rattle.session.specs.declared.Session.{Session}
@@ -13,16 +13,16 @@ use Rattle.runs.specs.declared.Told.the-variants.{WantClock, WantSend, W
 use Rattle.runs.specs.declared.Turn.{Turn}
 
 -- an open run whose machine wants just what was told
-pub record Wants (motor : ℕ) (told : Told) (run : Run) : Type 0 where
+pub record Wants (h : Heard) (told : Told) (run : Run) : Type 0 where
   pub machine : Machine
   pub is-open : run ≡ record { phase = Open machine }
-  pub tells : told ≡ wanted motor (machine-want machine)
+  pub tells : told ≡ wanted h (machine-want machine)
 
 -- a want leaves that run open, a result none, a refusal the session as it was
 abbrev pub Follows : Session → Told → Session → Type 0
-Follows before WantClock s = Wants (s .heard .«motor_id») WantClock (s .run)
-Follows before (WantSend id bytes) s = Wants (s .heard .«motor_id») (WantSend id bytes) (s .run)
-Follows before (WantSleep length) s = Wants (s .heard .«motor_id») (WantSleep length) (s .run)
+Follows before WantClock s = Wants (s .heard) WantClock (s .run)
+Follows before (WantSend id bytes) s = Wants (s .heard) (WantSend id bytes) (s .run)
+Follows before (WantSleep length) s = Wants (s .heard) (WantSleep length) (s .run)
 Follows before (Result result) s = s .run ≡ closed
 Follows before (Refused number) s = s ≡ before
 

@@ -19,8 +19,8 @@ use Rattle.machine.specs.Machine.{machine-want, machine-place, machine-step}
 use Rattle.machine.specs.declared.Machine.{Machine}
 use Rattle.machine.specs.declared.Next.{Next}
 use Rattle.machine.specs.declared.Next.the-variants.{Goes, Ends}
-use Rattle.machine.specs.declared.Place.{Place}
-use Rattle.machine.specs.declared.Place.the-variants.{Nowhere, Reply, Ack}
+use Rattle.cache.specs.declared.Place.{Place}
+use Rattle.cache.specs.declared.Place.the-variants.{Nowhere, Reply, Ack}
 use Rattle.session.specs.declared.Heard.{Heard}
 use Rattle.session.specs.declared.Run.{Run}
 use Rattle.session.specs.Session.{closed, with-last}
@@ -33,10 +33,10 @@ use Rattle.runs.specs.declared.Step.{Step}
 use Rattle.runs.specs.declared.Turn.{Turn}
 
 -- how a want is told: a send by the id and bytes of its message's frame
-abbrev pub wanted : ℕ → Want → Told
-wanted motor Clock = WantClock
-wanted motor (Send message) = WantSend (message-id motor message) (message-data motor message)
-wanted motor (Sleep length) = WantSleep length
+abbrev pub wanted : Heard → Want → Told
+wanted h Clock = WantClock
+wanted h (Send message) = WantSend (message-id (h .«motor_id») message) (message-data (h .«motor_id») (h .limits) message)
+wanted h (Sleep length) = WantSleep length
 
 -- 'Turned back', 3, for an answer that is a reading
 abbrev pub answer-accepted : Instant → Answer → Bool
@@ -56,7 +56,7 @@ with-reading h Slept = h
 
 -- the next want, or the result, which closes the run
 abbrev pub stepped : Heard → Next → Step
-stepped h (Goes machine) = record { told = wanted (h .«motor_id») (machine-want machine); heard = h; run = record { phase = Open machine } }
+stepped h (Goes machine) = record { told = wanted h (machine-want machine); heard = h; run = record { phase = Open machine } }
 stepped h (Ends result) = record { told = Result result; heard = h; run = closed }
 
 abbrev pub refused : Heard → Run → ℕ → Step

@@ -5,8 +5,8 @@ use lib.Dec.{ltb}
 use Rattle.cache.specs.declared.Entry.{Entry}
 use Rattle.cache.specs.declared.Entry.the-variants.{Empty}
 use Rattle.cache.specs.declared.Slot.{Slot}
-use Rattle.machine.specs.declared.Place.{Place}
-use Rattle.machine.specs.declared.Place.the-variants.{Nowhere, Reply, Ack}
+use Rattle.cache.specs.declared.Place.{Place}
+use Rattle.cache.specs.declared.Place.the-variants.{Nowhere, Reply, Ack}
 
 abbrev pub place-register : Place → ℕ
 place-register Nowhere = 0

@@ -5,11 +5,11 @@ ghost use mathlib.Core.Path.{_≡_};
 ghost use Rattle.runs.specs.Runs as Spec;
 ghost use Rattle.runs.specs.Slots.{place-register, entry-between};
 use cache::Entry;
+use cache::Place;
 use cache::Slot;
 use cache::slot_place;
 use machine::Machine;
 use machine::Next;
-use machine::Place;
 use machine::RunResult;
 use machine::machine_place;
 use machine::machine_step;
@@ -52,15 +52,15 @@ pub struct Turn {
 }
 
 // How a want is told.
-pub fn wanted(motor_id: u16, want: Want) -> Told
-    ensures { λ r. ⌜ r ≡ Spec.wanted «motor_id» want ⌝ }
+pub fn wanted(heard: Heard, want: Want) -> Told
+    ensures { λ r. ⌜ r ≡ Spec.wanted heard want ⌝ }
 {
     match want {
         Want::Clock => Told::WantClock,
         Want::Send(message) => {
             Told::WantSend(
-                message_id(motor_id, message),
-                message_data(motor_id, message),
+                message_id(heard.motor_id, message),
+                message_data(heard.motor_id, heard.limits, message),
             )
         }
         Want::Sleep(length) => Told::WantSleep(length),
@@ -100,7 +100,7 @@ fn stepped(heard: Heard, next: Next) -> Step
 {
     match next {
         Next::Goes(machine) => Step {
-            told: wanted(heard.motor_id, machine_want(machine)),
+            told: wanted(heard, machine_want(machine)),
             heard,
             run: Run {
                 phase: Phase::Open(machine),

@@ -12,7 +12,7 @@ use want::Want;
 use want::reading_of;
 
 // In nanoseconds.
-const REGISTER_POLL_INTERVAL: Duration = Duration(2_000_000);
+pub const REGISTER_POLL_INTERVAL: Duration = Duration(2_000_000);
 
 // After a look that found nothing, with the wait's opening.
 pub enum Wait {

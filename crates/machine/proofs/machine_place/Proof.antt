@@ -1,5 +1,5 @@
 -- `machine::machine_place` meets its contract. Assumes nothing.
-use mathlib.Core.Path.{sym, ap}
+use mathlib.Core.Path.{sym, ap, _∙_}
 use Rattle.machine.specs.Machine.{machine-place}
 use borrow.Author.Needs.{needs}
 use Rattle.machine.proofs.machine_place.Statement.{statement}
@@ -17,6 +17,12 @@ enum-told c = search needs
 enum-told-2 : tie.Need-enum-told-2
 enum-told-2 c = search needs
 
+enum-known-machine-3 : tie.Need-enum-known-machine-3
+enum-known-machine-3 c = search needs
+
+switch-place-requires : tie.Need-switch-place-requires
+switch-place-requires c κs = search needs
+
 returns : tie.Need-returns
 returns c = sym (ap machine-place (c .before .machine .given .1))
 
@@ -29,6 +35,9 @@ returns-3 c = search needs
 returns-4 : tie.Need-returns-4
 returns-4 c = search needs
 
+returns-5 : tie.Need-returns-5
+returns-5 c = c .switch-place .ensures ∙ sym (ap machine-place (c .before .before .machine3 .given .1))
+
 pub machine-place-spec : {M : Type 1} → statement M
 machine-place-spec =
     tie.close
@@ -37,7 +46,10 @@ machine-place-spec =
     enum-known-machine-2
     enum-told
     enum-told-2
+    enum-known-machine-3
+    switch-place-requires
     returns
     returns-2
     returns-3
-    returns-4)
+    returns-4
+    returns-5)

@@ -1,6 +1,6 @@
 -- `machine::machine_step` meets its contract. Assumes nothing.
 use mathlib.Core.Path.{sym, ap, _∙_}
-use Rattle.machine.specs.Machine.{after-read, after-write, after-state, after-store, machine-step}
+use Rattle.machine.specs.Machine.{after-read, after-write, after-state, after-store, after-switch, machine-step}
 use borrow.Author.Needs.{needs}
 use Rattle.machine.proofs.machine_step.Statement.{statement}
 use Rattle.machine.proofs.machine_step.Tie as tie
@@ -41,6 +41,15 @@ store-step-requires c κs = search needs
 after-store-requires : tie.Need-after-store-requires
 after-store-requires c κs = search needs
 
+enum-known-machine-5 : tie.Need-enum-known-machine-5
+enum-known-machine-5 c = search needs
+
+switch-step-requires : tie.Need-switch-step-requires
+switch-step-requires c κs = search needs
+
+after-switch-requires : tie.Need-after-switch-requires
+after-switch-requires c κs = search needs
+
 returns : tie.Need-returns
 returns c = let a = c .before .before .before .before .before .args in c .after-read .ensures ∙ ap (after-read _ _ _) (c .before .get-step .ensures) ∙ sym (ap (λ m. machine-step (a .latest) (a .entry) m (a .answer)) (c .before .before .before .machine .given .1))
 
@@ -52,6 +61,9 @@ returns-3 c = let a = c .before .before .before .before .before .args in c .afte
 
 returns-4 : tie.Need-returns-4
 returns-4 c = let a = c .before .before .before .before .before .args in c .after-store .ensures ∙ ap after-store (c .before .store-step .ensures) ∙ sym (ap (λ m. machine-step (a .latest) (a .entry) m (a .answer)) (c .before .before .before .machine4 .given .1))
+
+returns-5 : tie.Need-returns-5
+returns-5 c = let a = c .before .before .before .before .before .args in c .after-switch .ensures ∙ ap (after-switch _ _) (c .before .switch-step .ensures) ∙ sym (ap (λ m. machine-step (a .latest) (a .entry) m (a .answer)) (c .before .before .before .machine5 .given .1))
 
 pub machine-step-spec : {M : Type 1} → statement M
 machine-step-spec =
@@ -69,7 +81,11 @@ machine-step-spec =
     enum-known-machine-4
     store-step-requires
     after-store-requires
+    enum-known-machine-5
+    switch-step-requires
+    after-switch-requires
     returns
     returns-2
     returns-3
-    returns-4)
+    returns-4
+    returns-5)

@@ -29,6 +29,12 @@ enum-known-machine-4 c = search needs
 store-want-requires : tie.Need-store-want-requires
 store-want-requires c κs = search needs
 
+enum-known-machine-5 : tie.Need-enum-known-machine-5
+enum-known-machine-5 c = search needs
+
+switch-want-requires : tie.Need-switch-want-requires
+switch-want-requires c κs = search needs
+
 returns : tie.Need-returns
 returns c = c .read-want .ensures ∙ sym (ap machine-want (c .before .before .machine .given .1))
 
@@ -40,6 +46,9 @@ returns-3 c = c .state-want .ensures ∙ sym (ap machine-want (c .before .before
 
 returns-4 : tie.Need-returns-4
 returns-4 c = c .store-want .ensures ∙ sym (ap machine-want (c .before .before .machine4 .given .1))
+
+returns-5 : tie.Need-returns-5
+returns-5 c = c .switch-want .ensures ∙ sym (ap machine-want (c .before .before .machine5 .given .1))
 
 pub machine-want-spec : {M : Type 1} → statement M
 machine-want-spec =
@@ -53,7 +62,10 @@ machine-want-spec =
     state-want-requires
     enum-known-machine-4
     store-want-requires
+    enum-known-machine-5
+    switch-want-requires
     returns
     returns-2
     returns-3
-    returns-4)
+    returns-4
+    returns-5)

@@ -21,10 +21,10 @@ wanted-requires : tie.Need-wanted-requires
 wanted-requires c κs = search needs
 
 returns : tie.Need-returns
-returns c = let a = c .before .before .before .args in sym (ap (first-want (a .motor-id) (a .run)) (c .before .start .given .1))
+returns c = let a = c .before .before .before .args in sym (ap (first-want (a .heard) (a .run)) (c .before .start .given .1))
 
 returns-2 : tie.Need-returns-2
-returns-2 c = let a = c .before .before .before .before .before .args in ap (λ (t : Told). opened t (record { phase = Open (c .before .before .before .start2 .given .0 .0) })) (c .wanted .ensures ∙ ap (wanted (a .motor-id)) (c .before .machine-want .ensures)) ∙ sym (ap (first-want (a .motor-id) (a .run)) (c .before .before .before .start2 .given .1))
+returns-2 c = let a = c .before .before .before .before .before .args in ap (λ (t : Told). opened t (record { phase = Open (c .before .before .before .start2 .given .0 .0) })) (c .wanted .ensures ∙ ap (wanted (a .heard)) (c .before .machine-want .ensures)) ∙ sym (ap (first-want (a .heard) (a .run)) (c .before .before .before .start2 .given .1))
 
 pub first-want-spec : {M : Type 1} → statement M
 first-want-spec =

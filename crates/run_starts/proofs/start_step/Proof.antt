@@ -15,10 +15,10 @@ enum-told-2 : tie.Need-enum-told-2
 enum-told-2 c = search needs
 
 returns : tie.Need-returns
-returns c = let a = c .before .before .before .args in c .first-want .ensures ∙ sym (ap (λ p. start-by p (a .motor-id) (a .run) (a .start)) (c .before .enum-told .given .1))
+returns c = let a = c .before .before .before .args in c .first-want .ensures ∙ sym (ap (λ p. start-by p (a .heard) (a .run) (a .start)) (c .before .enum-told .given .1))
 
 returns-2 : tie.Need-returns-2
-returns-2 c = let a = c .before .before .args in sym (ap (λ p. start-by p (a .motor-id) (a .run) (a .start)) (c .enum-told2 .given .1))
+returns-2 c = let a = c .before .before .args in sym (ap (λ p. start-by p (a .heard) (a .run) (a .start)) (c .enum-told2 .given .1))
 
 pub start-step-spec : {M : Type 1} → statement M
 start-step-spec = tie.close (tie.spec enum-told first-want-requires enum-told-2 returns returns-2)

@@ -1,6 +1,6 @@
 -- `runs::entry_between` meets its contract. Assumes nothing.
 use mathlib.Core.Path.{sym, ap, _∙_}
-use Rattle.machine.specs.declared.Place.{Place}
+use Rattle.cache.specs.declared.Place.{Place}
 use Rattle.runs.specs.Slots.{picked}
 use Rattle.runs.proofs.Look.{has-slot, has-none}
 use borrow.Author.Needs.{needs}

@@ -21,7 +21,7 @@ enum-known-next-2 : tie.Need-enum-known-next-2
 enum-known-next-2 c = search needs
 
 returns : tie.Need-returns
-returns c = let a = c .before .before .before .before .before .args in ap {B = Step} (λ (t : Told). record { told = t; heard = a .heard; run = record { phase = Open (c .before .before .before .next .given .0 .0) } }) (c .wanted .ensures ∙ ap (wanted (a .heard .«motor_id»)) (c .before .machine-want .ensures)) ∙ sym (ap (stepped (a .heard)) (c .before .before .before .next .given .1))
+returns c = let a = c .before .before .before .before .before .args in ap {B = Step} (λ (t : Told). record { told = t; heard = a .heard; run = record { phase = Open (c .before .before .before .next .given .0 .0) } }) (c .wanted .ensures ∙ ap (wanted (a .heard)) (c .before .machine-want .ensures)) ∙ sym (ap (stepped (a .heard)) (c .before .before .before .next .given .1))
 
 returns-2 : tie.Need-returns-2
 returns-2 c = sym (ap (stepped (c .before .before .before .args .heard)) (c .before .next2 .given .1))

@@ -27,10 +27,10 @@ returns : tie.Need-returns
 returns c = search needs
 
 returns-2 : tie.Need-returns-2
-returns-2 c = ap (λ (id : ℕ). WantSend id (c .message-data .result)) (c .before .message-id .ensures) ∙ ap (λ (d : ℕ). WantSend (message-id (c .before .before .before .before .before .args .motor-id) (c .before .before .before .want .given .0 .0)) d) (c .message-data .ensures) ∙ sym (ap (wanted (c .before .before .before .before .before .args .motor-id)) (c .before .before .before .want .given .1))
+returns-2 c = ap (λ (id : ℕ). WantSend id (c .message-data .result)) (c .before .message-id .ensures) ∙ ap (λ (d : ℕ). WantSend (message-id (c .before .before .before .before .before .args .heard .«motor_id») (c .before .before .before .want .given .0 .0)) d) (c .message-data .ensures) ∙ sym (ap (wanted (c .before .before .before .before .before .args .heard)) (c .before .before .before .want .given .1))
 
 returns-3 : tie.Need-returns-3
-returns-3 c = sym (ap (wanted (c .before .before .before .args .motor-id)) (c .before .want2 .given .1))
+returns-3 c = sym (ap (wanted (c .before .before .before .args .heard)) (c .before .want2 .given .1))
 
 pub wanted-spec : {M : Type 1} → statement M
 wanted-spec =

@@ -35,20 +35,29 @@ enum-told-3 c = search needs
 encode-store-params-cmd-requires : tie.Need-encode-store-params-cmd-requires
 encode-store-params-cmd-requires c κs = search needs
 
+enum-known-message-3 : tie.Need-enum-known-message-3
+enum-known-message-3 c = search needs
+
+hold-data-requires : tie.Need-hold-data-requires
+hold-data-requires c κs = search needs
+
 returns : tie.Need-returns
-returns c = c .encode-register-read-cmd .ensures ∙ sym (ap (message-data (c .before .before .before .before .args .motor-id)) (c .before .before .message .given .1))
+returns c = let a = c .before .before .before .before .args in c .encode-register-read-cmd .ensures ∙ sym (ap (message-data (a .motor-id) (a .limits)) (c .before .before .message .given .1))
 
 returns-2 : tie.Need-returns-2
-returns-2 c = c .encode-register-write-cmd .ensures ∙ sym (ap (message-data (c .before .before .before .before .args .motor-id)) (c .before .before .message2 .given .1))
+returns-2 c = let a = c .before .before .before .before .args in c .encode-register-write-cmd .ensures ∙ sym (ap (message-data (a .motor-id) (a .limits)) (c .before .before .message2 .given .1))
 
 returns-3 : tie.Need-returns-3
-returns-3 c = c .encode-feedback-request-cmd .ensures ∙ sym (ap (message-data (c .before .before .before .args .motor-id)) (c .before .enum-told .given .1))
+returns-3 c = let a = c .before .before .before .args in c .encode-feedback-request-cmd .ensures ∙ sym (ap (message-data (a .motor-id) (a .limits)) (c .before .enum-told .given .1))
 
 returns-4 : tie.Need-returns-4
-returns-4 c = c .encode-disable-cmd .ensures ∙ sym (ap (message-data (c .before .before .before .args .motor-id)) (c .before .enum-told2 .given .1))
+returns-4 c = let a = c .before .before .before .args in c .encode-disable-cmd .ensures ∙ sym (ap (message-data (a .motor-id) (a .limits)) (c .before .enum-told2 .given .1))
 
 returns-5 : tie.Need-returns-5
-returns-5 c = c .encode-store-params-cmd .ensures ∙ sym (ap (message-data (c .before .before .before .args .motor-id)) (c .before .enum-told3 .given .1))
+returns-5 c = let a = c .before .before .before .args in c .encode-store-params-cmd .ensures ∙ sym (ap (message-data (a .motor-id) (a .limits)) (c .before .enum-told3 .given .1))
+
+returns-6 : tie.Need-returns-6
+returns-6 c = let a = c .before .before .before .before .args in c .hold-data .ensures ∙ sym (ap (message-data (a .motor-id) (a .limits)) (c .before .before .message3 .given .1))
 
 pub message-data-spec : {M : Type 1} → statement M
 message-data-spec =
@@ -64,8 +73,11 @@ message-data-spec =
     encode-disable-cmd-requires
     enum-told-3
     encode-store-params-cmd-requires
+    enum-known-message-3
+    hold-data-requires
     returns
     returns-2
     returns-3
     returns-4
-    returns-5)
+    returns-5
+    returns-6)
