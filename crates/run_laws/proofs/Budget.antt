@@ -1,15 +1,17 @@
 -- Each answer takes from what a phase may still want at least the want that it answers; so does a whole run. Once for every way of weighing. Assumes nothing.
-use Prim.Native.Nat.{ℕ, zero, suc, _+_, _≤_}
+use Prim.Native.Nat.{ℕ, zero, suc, _+_, _≤_, min}
 use mathlib.Core.Path.{_≡_, refl}
 use mathlib.Core.Bool.{Bool, true, false, cond}
 use mathlib.Core.List.{List, [], _∷_}
 use mathlib.Core.Option.{Option, none, some}
 use native.Mathlib.Omega.{arith}
 use lib.Dec.{eqb}
+use Rattle.motor_core.specs.Time.{millis}
 use Rattle.motor_core.specs.declared.time.Instant.{Instant}
 use Rattle.motor_core.specs.declared.time.Duration.{Duration}
 use Rattle.registers.specs.Value.{same-value, of-type}
 use Rattle.registers.specs.declared.RegisterDataType.{RegisterDataType}
+use Rattle.registers.specs.declared.RegisterDataType.the-variants.{Float, UInt32}
 use Rattle.registers.specs.declared.RegisterValue.{RegisterValue}
 use Rattle.feedback.specs.declared.Latest.{Latest}
 use Rattle.feedback.specs.declared.Latest.the-variants as Latest
@@ -19,7 +21,7 @@ use Rattle.cache.specs.declared.Entry.the-variants.{Empty, Held}
 use Rattle.want.specs.Want.{reading-of, send-result}
 use Rattle.want.specs.declared.Answer.{Answer}
 use Rattle.want.specs.declared.Failure.{Failure}
-use Rattle.want.specs.declared.Failure.the-variants.{Mismatch, WrongType}
+use Rattle.want.specs.declared.Failure.the-variants.{Timeout, Mismatch, WrongType, SendFailed}
 use Rattle.want.specs.declared.SendResult.{SendResult}
 use Rattle.want.specs.declared.SendResult.the-variants as SendResult
 use Rattle.want.specs.declared.message.Message.{Message}
@@ -58,15 +60,30 @@ use Rattle.fresh_state.specs.declared.store.Store.{Store}
 use Rattle.fresh_state.specs.declared.store.Store.the-variants as Store
 use Rattle.fresh_state.specs.declared.store.StoreNext.{StoreNext}
 use Rattle.fresh_state.specs.declared.store.StoreNext.the-variants as Stored
-use Rattle.machine.specs.Machine.{machine-want, after-read, after-write, after-state, after-store, machine-step}
+use Rattle.control_mode.specs.declared.ControlMode.{ControlMode}
+use Rattle.control_mode.specs.declared.ControlMode.the-variants.{Mit, PosVel, Vel, ForcePos}
+use Rattle.ensure_mode.specs.Switch.{mode-value, with-error, prepare, not-yet, mode-read, hold-read, hold-at, finish, written, held, cleared, mode-timed, hold-timed, settled, switch-want, switch-step}
+use Rattle.time_left.specs.TimeLeft.{shorter, budget-cap, mode-read-cap, hold-read-cap, remaining-until, capped, settle-time}
+use Rattle.time_left.specs.declared.TimeLeft.{TimeLeft}
+use Rattle.time_left.specs.declared.TimeLeft.the-variants as Left
+use Rattle.ensure_mode.specs.declared.HoldPosition.{HoldPosition}
+use Rattle.ensure_mode.specs.declared.HoldPosition.the-variants as Position
+use Rattle.ensure_mode.specs.declared.ModeRead.{ModeRead}
+use Rattle.ensure_mode.specs.declared.ModeRead.the-variants.{First, Verify}
+use Rattle.ensure_mode.specs.declared.Progress.{Progress}
+use Rattle.ensure_mode.specs.declared.Switch.{Switch}
+use Rattle.ensure_mode.specs.declared.Switch.the-variants as Switch
+use Rattle.ensure_mode.specs.declared.SwitchNext.{SwitchNext}
+use Rattle.ensure_mode.specs.declared.SwitchNext.the-variants as Switched
+use Rattle.machine.specs.Machine.{machine-want, after-read, after-write, after-state, after-store, after-switch, machine-step}
 use Rattle.machine.specs.declared.Machine.{Machine}
-use Rattle.machine.specs.declared.Machine.the-variants.{GetRegister, WriteRegister, RequestFreshState, StoreParameters}
+use Rattle.machine.specs.declared.Machine.the-variants.{GetRegister, WriteRegister, RequestFreshState, StoreParameters, EnsureControlMode}
 use Rattle.machine.specs.declared.Next.{Next}
 use Rattle.machine.specs.declared.Next.the-variants.{Goes, Ends}
-use Rattle.run_laws.specs.Budget.{Budget, weigh, ask-left, asked-left, read-left, state-left, disabling, store-left, stored-left, ack-left, acked-left, more-tries, write-left, written-left, machine-left, left}
+use Rattle.run_laws.specs.Budget.{Budget, clearing, weigh, ask-left, asked-left, read-left, state-left, disabling, store-left, stored-left, ack-left, acked-left, more-tries, write-left, written-left, mode-reading, holding, finishing, more-rounds, rounds, preparing, unfound, switch-left, switched-left, machine-left, left}
 use Rattle.run_laws.specs.Clock.{Clocked, known-after, fine, All-fine}
 use Rattle.run_laws.specs.Systems.{still, waiting, acking-on, acking, running-on, running}
-use Rattle.run_laws.specs.Trace.{Given, System, wants-from, total}
+use Rattle.run_laws.specs.Trace.{Given, System, label, wants-from, total}
 
 module _ {κ : Clocked} (β : Budget κ) where
   -- ---- the wait, by what comes of an answer
@@ -99,7 +116,7 @@ module _ {κ : Clocked} (β : Budget κ) where
   ask-falls m l k Ask.Opening a f = omega (arith, β .opens l (reading-of a))
   ask-falls m l k (Ask.Sending o) a f = go (send-result a)
     where
-      go : (x : SendResult) → β .send m + asked-left β m l k (ask-sent o x) ≤ β .send m + β .wait-left l k (Checking o)
+      go : (x : SendResult) → β .send (label m) + asked-left β m l k (ask-sent o x) ≤ β .send (label m) + β .wait-left l k (Checking o)
       go SendResult.Sent = omega arith
       go (SendResult.Failed failure) = omega arith
   ask-falls m l k (Ask.Waiting w) a f = omega (arith, wait-falls l k w a f, asked-waited m l (known-after κ (wait-want w) a k) (wait-step l w a))
@@ -237,6 +254,109 @@ module _ {κ : Clocked} (β : Budget κ) where
   write-covers rid v k (Write.Waiting n q) = omega (arith, ack-covers k q)
   write-covers rid v k (Write.Gap n) = omega arith
 
+  -- ---- the mode switch
+
+  unfound-left : (mode : ControlMode) (k : κ .Known) (which : ModeRead) (p : Progress) → switched-left β mode k (not-yet mode which p) ≤ unfound β mode which
+  unfolding more-rounds
+  unfound-left mode k First p = go mode
+    where
+      go : (m : ControlMode) → switched-left β mode k (prepare m p) ≤ preparing β mode
+      go Mit = omega arith
+      go PosVel = omega arith
+      go Vel = omega arith
+      go ForcePos = omega arith
+  unfound-left mode k (Verify zero) p = omega arith
+  unfound-left mode k (Verify (suc n)) p = omega arith
+
+  mode-read-left : (mode : ControlMode) (k : κ .Known) (which : ModeRead) (p : Progress) (l : Duration) (x : ReadNext) → switched-left β mode k (mode-read mode which p l x) ≤ read-left β 10 l k x + unfound β mode which
+  mode-read-left mode k which p l (Read.Goes q) = omega arith
+  mode-read-left mode k which p l (Read.Got v) = omega (arith, go (same-value v (mode-value mode)))
+    where
+      go : (b : Bool) → switched-left β mode k (cond b Switched.Done (not-yet mode which (with-error p (Mismatch v)))) ≤ unfound β mode which
+      go true = omega arith
+      go false = unfound-left mode k which (with-error p (Mismatch v))
+  mode-read-left mode k which p l (Read.Failed Timeout) = omega (arith, unfound-left mode k which (with-error p Timeout))
+  mode-read-left mode k which p l (Read.Failed (Mismatch v)) = omega arith
+  mode-read-left mode k which p l (Read.Failed WrongType) = omega arith
+  mode-read-left mode k which p l (Read.Failed SendFailed) = omega arith
+
+  hold-read-left : (mode : ControlMode) (k : κ .Known) (p : Progress) (l : Duration) (x : ReadNext) → switched-left β mode k (hold-read p l x) ≤ read-left β 80 l k x + clearing β Vel + rounds β mode
+  hold-read-left mode k p l (Read.Goes q) = omega arith
+  hold-read-left mode k p l (Read.Got v) = omega arith
+  hold-read-left mode k p l (Read.Failed failure) = omega arith
+
+  hold-at-left : (mode : ControlMode) (k : κ .Known) (n : ℕ) (p : Progress) (h : HoldPosition) → switched-left β mode k (hold-at n p h) ≤ holding β mode + mode-reading β + more-rounds β mode n
+  hold-at-left mode k n p Position.None = omega arith
+  hold-at-left mode k n p (Position.Some h) = omega arith
+
+  finish-left : (mode : ControlMode) (k : κ .Known) (n : ℕ) (p : Progress) → switched-left β mode k (finish mode n p) ≤ holding β mode + mode-reading β + more-rounds β mode n
+  finish-left Mit k n p = omega arith
+  finish-left PosVel k n p = hold-at-left PosVel k n p (p .«hold_position»)
+  finish-left Vel k n p = omega arith
+  finish-left ForcePos k n p = hold-at-left ForcePos k n p (p .«hold_position»)
+
+  written-mode-left : (mode : ControlMode) (k : κ .Known) (n : ℕ) (p : Progress) (x : WriteNext) → switched-left β mode k (written n p x) ≤ written-left β 10 (mode-value mode) k x + finishing β mode + mode-reading β + more-rounds β mode n
+  written-mode-left mode k n p (Written.Goes w) = omega arith
+  written-mode-left mode k n p Written.Written = omega arith
+  written-mode-left mode k n p (Written.Failed failure) = omega arith
+
+  held-left : (mode : ControlMode) (k : κ .Known) (n : ℕ) (p : Progress) (x : SendResult) → switched-left β mode k (held n p x) ≤ mode-reading β + more-rounds β mode n
+  held-left mode k n p SendResult.Sent = omega arith
+  held-left mode k n p (SendResult.Failed failure) = omega arith
+
+  cleared-left : (mode : ControlMode) (k : κ .Known) (c : ControlMode) (p : Progress) → holding β c + switched-left β mode k (cleared c p) ≤ clearing β c + rounds β mode
+  unfolding more-rounds
+  cleared-left mode k Mit p = omega arith
+  cleared-left mode k PosVel p = omega arith
+  cleared-left mode k Vel p = omega arith
+  cleared-left mode k ForcePos p = omega arith
+
+  -- what the caps leave for a read
+  within-cap : (total cap : Duration) (divisor : ℕ) (x : ℕ) → min x (budget-cap total cap divisor .0) ≤ cap .0
+  within-cap total cap divisor x = omega arith
+
+  mode-timed-left : (mode : ControlMode) (k : κ .Known) (which : ModeRead) (p : Progress) (total : Duration) (x : TimeLeft) → β .clock + switched-left β mode k (mode-timed which p (capped (mode-read-cap total) x)) ≤ mode-reading β + unfound β mode which
+  mode-timed-left mode k which p total Left.None = omega arith
+  mode-timed-left mode k which p total (Left.Some left) = omega (arith, β .grows (shorter left (mode-read-cap total)) (millis 100) (within-cap total (millis 100) 4 (left .0)))
+
+  hold-timed-left : (mode : ControlMode) (k : κ .Known) (p : Progress) (total : Duration) (x : TimeLeft) → β .clock + switched-left β mode k (hold-timed p (capped (hold-read-cap total) x)) ≤ preparing β mode
+  hold-timed-left mode k p total Left.None = omega arith
+  hold-timed-left mode k p total (Left.Some left) = omega (arith, β .grows (shorter left (hold-read-cap total)) (millis 30) (within-cap total (millis 30) 6 (left .0)))
+
+  settled-left : (mode : ControlMode) (k : κ .Known) (n : ℕ) (p : Progress) (x : TimeLeft) → β .clock + switched-left β mode k (settled mode n p x) ≤ finishing β mode + mode-reading β + more-rounds β mode n
+  settled-left mode k n p Left.None = omega (arith, finish-left mode k n p)
+  settled-left mode k n p (Left.Some l) = omega arith
+
+  pub switch-falls : (mode : ControlMode) (total : Duration) (k : κ .Known) (e : Entry) (s : Switch) (a : Answer) → fine κ (switch-want mode s) a k → weigh β (switch-want mode s) + switched-left β mode (known-after κ (switch-want mode s) a k) (switch-step mode total e s a) ≤ switch-left β mode k s
+  switch-falls mode total k e Switch.Starting a f = omega arith
+  switch-falls mode total k e (Switch.Remaining which p) a f = mode-timed-left mode (κ .hear (reading-of a)) which p total (remaining-until (p .deadline) (reading-of a))
+  switch-falls mode total k e (Switch.Reading which p l q) a f =
+      let k′ = known-after κ (ask-want (ReadRegister 10) q) a k in
+      omega (arith, get-falls UInt32 10 l k e q a f, mode-read-left mode k′ which p l (get-step UInt32 l e q a))
+  switch-falls mode total k e (Switch.HoldRemaining p) a f = hold-timed-left mode (κ .hear (reading-of a)) p total (remaining-until (p .deadline) (reading-of a))
+  switch-falls mode total k e (Switch.HoldReading p l q) a f =
+      let k′ = known-after κ (ask-want (ReadRegister 80) q) a k in
+      omega (arith, get-falls Float 80 l k e q a f, hold-read-left mode k′ p l (get-step Float l e q a))
+  switch-falls mode total k e (Switch.Clearing c p) a f = cleared-left mode k c p
+  switch-falls mode total k e (Switch.Writing n p w) a f =
+      let v = mode-value mode in
+      omega (arith, write-falls 10 v k e w a f, written-mode-left mode (known-after κ (write-want 10 v w) a k) n p (write-step v e w a))
+  switch-falls mode total k e (Switch.Settling n p) a f = settled-left mode (κ .hear (reading-of a)) n p (settle-time (p .deadline) (mode-read-cap total) (reading-of a))
+  switch-falls mode total k e (Switch.Sleeping n p l) a f = omega (arith, finish-left mode (κ .nap l k) n p)
+  switch-falls mode total k e (Switch.Holding n p) a f = omega (arith, held-left mode k n p (send-result a))
+
+  pub switch-covers : (mode : ControlMode) (k : κ .Known) (s : Switch) → weigh β (switch-want mode s) ≤ switch-left β mode k s
+  switch-covers mode k Switch.Starting = omega arith
+  switch-covers mode k (Switch.Remaining which p) = omega arith
+  switch-covers mode k (Switch.Reading which p l q) = omega (arith, ask-covers (ReadRegister 10) l k q)
+  switch-covers mode k (Switch.HoldRemaining p) = omega arith
+  switch-covers mode k (Switch.HoldReading p l q) = omega (arith, ask-covers (ReadRegister 80) l k q)
+  switch-covers mode k (Switch.Clearing c p) = omega (arith, cleared-left mode k c p)
+  switch-covers mode k (Switch.Writing n p w) = omega (arith, write-covers 10 (mode-value mode) k w)
+  switch-covers mode k (Switch.Settling n p) = omega arith
+  switch-covers mode k (Switch.Sleeping n p l) = omega arith
+  switch-covers mode k (Switch.Holding n p) = omega arith
+
   -- ---- a run's machine
 
   after-read-left : (t : RegisterDataType) (rid : ℕ) (l : Duration) (k : κ .Known) (x : ReadNext) → left β k (after-read t rid l x) ≡ read-left β rid l k x
@@ -260,6 +380,11 @@ module _ {κ : Clocked} (β : Budget κ) where
   after-store-left k Stored.Done = refl
   after-store-left k (Stored.Failed failure) = refl
 
+  after-switch-left : (mode : ControlMode) (total : Duration) (k : κ .Known) (x : SwitchNext) → left β k (after-switch mode total x) ≡ switched-left β mode k x
+  after-switch-left mode total k (Switched.Goes s) = refl
+  after-switch-left mode total k Switched.Done = refl
+  after-switch-left mode total k (Switched.Failed failure) = refl
+
   pub falls : (k : κ .Known) (latest : Latest) (e : Entry) (m : Machine) (a : Answer) → fine κ (machine-want m) a k → weigh β (machine-want m) + left β (known-after κ (machine-want m) a k) (machine-step latest e m a) ≤ machine-left β k m
   falls k latest e (GetRegister t rid l q) a f =
       omega (arith, get-falls t rid l k e q a f, after-read-left t rid l (known-after κ (ask-want (ReadRegister rid) q) a k) (get-step t l e q a))
@@ -269,12 +394,15 @@ module _ {κ : Clocked} (β : Budget κ) where
       omega (arith, state-falls l k latest q a f, after-state-left l (known-after κ (ask-want RequestFeedback q) a k) (state-step l latest q a))
   falls k latest e (StoreParameters s) a f =
       omega (arith, store-falls k latest s a f, after-store-left (known-after κ (store-want s) a k) (store-step latest s a))
+  falls k latest e (EnsureControlMode mode total s) a f =
+      omega (arith, switch-falls mode total k e s a f, after-switch-left mode total (known-after κ (switch-want mode s) a k) (switch-step mode total e s a))
 
   pub covers : (k : κ .Known) (m : Machine) → weigh β (machine-want m) ≤ machine-left β k m
   covers k (GetRegister t rid l q) = ask-covers (ReadRegister rid) l k q
   covers k (WriteRegister rid v w) = write-covers rid v k w
   covers k (RequestFreshState l q) = ask-covers RequestFeedback l k q
   covers k (StoreParameters s) = store-covers k s
+  covers k (EnsureControlMode mode total s) = switch-covers mode k s
 
   -- ---- any machine, over a list of answers
 

@@ -12,20 +12,19 @@ use Rattle.motor_core.specs.declared.time.Duration.{Duration}
 use Rattle.want.specs.declared.Answer.{Answer}
 use Rattle.want.specs.declared.Want.{Want}
 use Rattle.want.specs.declared.Want.the-variants as Want
-use Rattle.want.specs.declared.message.Message.{Message}
 use Rattle.wait.specs.Wait.{late, poll-interval}
 use Rattle.wait.specs.declared.Wait.{Wait}
 use Rattle.wait.specs.declared.Wait.the-variants.{Checking, Napping}
 use Rattle.run_laws.specs.Budget.{Budget}
 use Rattle.run_laws.specs.Clock.{Clocked, known-after, fine, All-fine, Clock, heard, slept, Moved, Later, moving, polls}
-use Rattle.run_laws.specs.Trace.{Given, System}
+use Rattle.run_laws.specs.Trace.{Given, System, Label}
 
 -- ---- messages alone
 
 abbrev pub unclocked : Clocked
 unclocked = record { Known = Unit {0}; hear = λ t. tt; nap = λ d k. tt; Fine = λ k t. Unit {0} }
 
-abbrev pub by-message : (Message → ℕ) → Budget unclocked
+abbrev pub by-message : (Label → ℕ) → Budget unclocked
 by-message weight = record {
   clock = 0;
   send = weight;
@@ -102,7 +101,7 @@ module _ (c s : ℕ) where
   unfolding furthest
   timed-opens l o = omega (arith, mul-le-mul-left (c + s) (polls-grow (o .0 + l .0 - o .0) (l .0) (omega arith)))
 
-  module _ (weight : Message → ℕ) where
+  module _ (weight : Label → ℕ) where
     abbrev pub by-clock : Budget moving
     by-clock = record {
       clock = c;

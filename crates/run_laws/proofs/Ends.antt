@@ -41,42 +41,42 @@ use Rattle.confirmed_write.specs.declared.Write.{Write}
 use Rattle.confirmed_write.specs.declared.Write.the-variants as Write
 use Rattle.fresh_state.specs.State.{state-by, state-step}
 use Rattle.fresh_state.specs.State as StateSpec
-use Rattle.run_laws.specs.Ends.{ask-opening, ack-opening, Found, ReadSaw, GetSaw, AckSaw, StateSaw, WriteSaw}
+use Rattle.run_laws.specs.Ends.{ask-opening, ack-opening, Found, Look, Since, ReadSaw, GetSaw, AckSaw, StateSaw, WriteSaw}
 
 module _ (l : Duration) (answer : Answer) where
   -- ---- the register read
 
   module _ (entry : Entry) where
-    read-look-saw : (ask : Ask) (o : Instant) → ask-opening ask ≡ some o → ReadSaw l entry ask answer (found o (fresh-entry o entry))
-    read-look-saw ask o opened = go entry refl
+    read-look-saw : (ask : Ask) (o : Instant) → Look ask answer o → Since ask answer o → ReadSaw l entry ask answer (found o (fresh-entry o entry))
+    read-look-saw ask o look since = go entry refl
       where
         go : (e : Entry) → entry ≡ e → ReadSaw l entry ask answer (found o (fresh-entry o e))
-        go Empty is = tt
+        go Empty is = since
         go (Held value stamp) is = fresh (leb (o .0) (stamp .0)) refl
           where
             fresh : (b : Bool) → leb (o .0) (stamp .0) ≡ b → ReadSaw l entry ask answer (found o (cond b (Held value stamp) Empty))
-            fresh true e = (o, opened, record { stamp = stamp; holds = is; fresh = leb-true _ _ e })
-            fresh false e = tt
+            fresh true e = (o, look, record { stamp = stamp; holds = is; fresh = leb-true _ _ e })
+            fresh false e = since
 
     pub read-saw : (ask : Ask) → ReadSaw l entry ask answer (read-step l entry ask answer)
-    read-saw Opening = tt
+    read-saw Opening = (refl, refl)
     read-saw (Sending o) = go (send-result answer) refl
       where
         go : (x : SendResult) → send-result answer ≡ x → ReadSaw l entry (Sending o) answer (read-by entry (ask-sent o x))
-        go SendResult.Sent e = read-look-saw (Sending o) o refl
+        go SendResult.Sent e = read-look-saw (Sending o) o (refl, e) (refl, e)
         go (SendResult.Failed failure) e = inl (o, refl, e)
     read-saw (Waiting (Checking o)) = go (late o l (reading-of answer)) refl
       where
         go : (b : Bool) → late o l (reading-of answer) ≡ b → ReadSaw l entry (Waiting (Checking o)) answer (read-by entry (ask-waited (cond b Waited.Late (Waited.Goes (Napping o)))))
         go true e = inr (o, refl, leb-true _ _ e, refl)
-        go false e = tt
-    read-saw (Waiting (Napping o)) = read-look-saw (Waiting (Napping o)) o refl
+        go false e = refl
+    read-saw (Waiting (Napping o)) = read-look-saw (Waiting (Napping o)) o refl refl
 
     pub get-saw : (data-type : RegisterDataType) (ask : Ask) → GetSaw data-type l entry ask answer (get-step data-type l entry ask answer)
     get-saw data-type ask = go (read-step l entry ask answer) (read-saw ask)
       where
         go : (x : ReadNext) → ReadSaw l entry ask answer x → GetSaw data-type l entry ask answer (get-by data-type x)
-        go (Read.Goes next) saw = tt
+        go (Read.Goes next) saw = saw
         go (Read.Got value) saw = typed (of-type value data-type) refl
           where
             typed : (b : Bool) → of-type value data-type ≡ b → GetSaw data-type l entry ask answer (cond b (Read.Got value) (Read.Failed WrongType))

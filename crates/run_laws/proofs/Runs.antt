@@ -5,17 +5,17 @@ use mathlib.Core.List.{List, [], _∷_}
 use mathlib.Core.Option.{Option, none, some}
 use native.Mathlib.Omega.{arith}
 use lib.ListN.{length}
+use Rattle.registers.specs.Value.{bits-of}
 use Rattle.want.specs.declared.Want.{Want}
 use Rattle.want.specs.declared.Want.the-variants.{Clock, Send, Sleep}
-use Rattle.want.specs.declared.message.Message.{Message}
 use Rattle.wait.specs.declared.Wait.the-variants.{Checking}
 use Rattle.confirmed_write.specs.declared.ack.AckWait.the-variants as AckWait
 use Rattle.machine.specs.declared.Machine.{Machine}
 use Rattle.run_laws.specs.Bounds.{Within, Bounds}
-use Rattle.run_laws.specs.Budget.{machine-left, more-tries}
+use Rattle.run_laws.specs.Budget.{machine-left, more-tries, more-rounds}
 use Rattle.run_laws.specs.Clock.{unheard}
 use Rattle.run_laws.specs.Systems.{running}
-use Rattle.run_laws.specs.Trace.{Given, System, wants-from, after, any-want, total}
+use Rattle.run_laws.specs.Trace.{Given, System, Label, wants-from, after, any-want, total}
 use Rattle.run_laws.proofs.Budget.{wait-bounded, ack-bounded, run-bounded}
 use Rattle.run_laws.proofs.Clock.{by-message, all-fine, by-clock}
 
@@ -33,24 +33,25 @@ ends σ (g ∷ gs) none h = refl
 ends σ (g ∷ gs) (some m) h = ends σ gs (σ .next g m) (omega (arith, one-want (σ .want m)))
 
 -- what the two ways of weighing leave to a run at its start
-within : (m : Machine) (sends : (Message → ℕ) → ℕ) (sleeps answers : ℕ)
-    → ((w : Message → ℕ) → machine-left (by-message w) tt m ≤ sends w)
-    → machine-left (by-clock 0 1 (λ message. 0)) unheard m ≤ sleeps
-    → machine-left (by-clock 1 1 (λ message. 1)) unheard m ≤ answers
+within : (m : Machine) (sends : (Label → ℕ) → ℕ) (sleeps answers : ℕ)
+    → ((w : Label → ℕ) → machine-left (by-message w) tt m ≤ sends w)
+    → machine-left (by-clock 0 1 (λ command. 0)) unheard m ≤ sleeps
+    → machine-left (by-clock 1 1 (λ command. 1)) unheard m ≤ answers
     → Within m sends sleeps answers
 within m sends sleeps answers a b c = record {
   sends-at-most = λ w gs. omega (arith, a w, run-bounded (by-message w) gs tt m (all-fine running gs (some m)));
-  sleeps-at-most = λ gs h. omega (arith, run-bounded (by-clock 0 1 (λ message. 0)) gs unheard m h);
-  ends-after = λ gs h n. ends running gs (some m) (omega (arith, run-bounded (by-clock 1 1 (λ message. 1)) gs unheard m h));
+  sleeps-at-most = λ gs h. omega (arith, run-bounded (by-clock 0 1 (λ command. 0)) gs unheard m h);
+  ends-after = λ gs h n. ends running gs (some m) (omega (arith, run-bounded (by-clock 1 1 (λ command. 1)) gs unheard m h));
 }
 
 pub bounds : Bounds
-unfolding more-tries
+unfolding more-tries more-rounds bits-of
 bounds = record {
-  wait = λ l finds o gs h. omega (arith, wait-bounded (by-clock 0 1 (λ message. 0)) l finds gs _ (Checking o) h, by-clock 0 1 (λ message. 0) .opens l o);
-  ack-wait = λ value gs h. omega (arith, ack-bounded (by-clock 0 1 (λ message. 0)) value gs unheard AckWait.Opening h);
+  wait = λ l finds o gs h. omega (arith, wait-bounded (by-clock 0 1 (λ command. 0)) l finds gs _ (Checking o) h, by-clock 0 1 (λ command. 0) .opens l o);
+  ack-wait = λ value gs h. omega (arith, ack-bounded (by-clock 0 1 (λ command. 0)) value gs unheard AckWait.Opening h);
   read = λ data-type rid l. within _ _ _ _ (λ w. omega arith) (omega arith) (omega arith);
   request = λ l. within _ _ _ _ (λ w. omega arith) (omega arith) (omega arith);
   write = λ rid value. within _ _ _ _ (λ w. omega arith) (omega arith) (omega arith);
   store = within _ _ _ _ (λ w. omega arith) (omega arith) (omega arith);
+  switch = λ mode l. within _ _ _ _ (λ w. omega arith) (omega arith) (omega arith);
 }

@@ -2,6 +2,7 @@
 use Prim.Native.Nat.{ℕ, zero, suc, _+_, _≤_}
 use mathlib.Core.Path.{_≡_}
 use mathlib.Core.Bool.{false}
+use Rattle.motor_core.specs.Time.{millis}
 use Rattle.motor_core.specs.declared.time.Instant.{Instant}
 use Rattle.motor_core.specs.declared.time.Duration.{Duration}
 use Rattle.registers.specs.Value.{bits-of}
@@ -9,6 +10,8 @@ use Rattle.registers.specs.declared.RegisterValue.{RegisterValue}
 use Rattle.want.specs.declared.Want.{Want}
 use Rattle.want.specs.declared.message.Message.{Message}
 use Rattle.want.specs.declared.message.Message.the-variants as Message
+use Rattle.control_mode.specs.declared.ControlMode.{ControlMode}
+use Rattle.control_mode.specs.declared.ControlMode.the-variants.{Mit, PosVel, Vel, ForcePos}
 use Rattle.wait.specs.Wait.{late, poll-interval}
 use Rattle.wait.specs.declared.Wait.{Wait}
 use Rattle.wait.specs.declared.Wait.the-variants.{Checking, Napping}
@@ -34,17 +37,24 @@ use Rattle.fresh_state.specs.declared.store.Store.{Store}
 use Rattle.fresh_state.specs.declared.store.Store.the-variants as Store
 use Rattle.fresh_state.specs.declared.store.StoreNext.{StoreNext}
 use Rattle.fresh_state.specs.declared.store.StoreNext.the-variants as Stored
+use Rattle.ensure_mode.specs.Switch.{mode-value}
+use Rattle.ensure_mode.specs.declared.ModeRead.{ModeRead}
+use Rattle.ensure_mode.specs.declared.ModeRead.the-variants.{First, Verify}
+use Rattle.ensure_mode.specs.declared.Switch.{Switch}
+use Rattle.ensure_mode.specs.declared.Switch.the-variants as Switch
+use Rattle.ensure_mode.specs.declared.SwitchNext.{SwitchNext}
+use Rattle.ensure_mode.specs.declared.SwitchNext.the-variants as Switched
 use Rattle.machine.specs.declared.Machine.{Machine}
-use Rattle.machine.specs.declared.Machine.the-variants.{GetRegister, WriteRegister, RequestFreshState, StoreParameters}
+use Rattle.machine.specs.declared.Machine.the-variants.{GetRegister, WriteRegister, RequestFreshState, StoreParameters, EnsureControlMode}
 use Rattle.machine.specs.declared.Next.{Next}
 use Rattle.machine.specs.declared.Next.the-variants.{Goes, Ends}
 use Rattle.run_laws.specs.Clock.{Clocked}
-use Rattle.run_laws.specs.Trace.{counted}
+use Rattle.run_laws.specs.Trace.{Label, label, counted}
 
 -- A way of weighing: what each want weighs, and what a wait may still want, by what is known of the clock.
 pub record Budget (κ : Clocked) : Type 1 where
   pub clock : ℕ
-  pub send : Message → ℕ
+  pub send : Label → ℕ
   pub sleep : ℕ
   pub wait-left : Duration → κ .Known → Wait → ℕ
   -- what one that has just opened may want
@@ -64,8 +74,8 @@ module _ {κ : Clocked} (β : Budget κ) where
 
   -- asking, by the message that is sent; a look that finds nothing leaves a wait
   abbrev pub ask-left : Message → Duration → κ .Known → Ask → ℕ
-  ask-left m l k Ask.Opening = β .clock + β .send m + β .opened l
-  ask-left m l k (Ask.Sending o) = β .send m + β .wait-left l k (Checking o)
+  ask-left m l k Ask.Opening = β .clock + β .send (label m) + β .opened l
+  ask-left m l k (Ask.Sending o) = β .send (label m) + β .wait-left l k (Checking o)
   ask-left m l k (Ask.Waiting w) = β .wait-left l k w
 
   abbrev pub asked-left : Message → Duration → κ .Known → Asked → ℕ
@@ -87,10 +97,10 @@ module _ {κ : Clocked} (β : Budget κ) where
 
   -- storing, after its request
   abbrev pub storing : ℕ
-  storing = β .send Message.StoreParams + β .sleep
+  storing = β .send Label.store + β .sleep
 
   abbrev pub disabling : ℕ
-  disabling = β .send Message.Disable + β .sleep + storing
+  disabling = β .send Label.disable + β .sleep + storing
 
   abbrev pub store-left : κ .Known → Store → ℕ
   store-left k (Store.Asking ask) = ask-left Message.RequestFeedback state-timeout k ask + disabling
@@ -115,7 +125,7 @@ module _ {κ : Clocked} (β : Budget κ) where
 
   -- one try of a write, and the tries after it, each after a gap
   abbrev pub one-try : ℕ → RegisterValue → ℕ
-  one-try rid value = β .send (Message.WriteRegister rid (bits-of value)) + β .clock + β .opened ack-timeout
+  one-try rid value = β .send (Label.write rid (bits-of value)) + β .clock + β .opened ack-timeout
 
   unfoldable pub more-tries : ℕ → RegisterValue → ℕ → ℕ
   more-tries rid value zero = 0
@@ -131,12 +141,70 @@ module _ {κ : Clocked} (β : Budget κ) where
   written-left rid value k Written.Written = 0
   written-left rid value k (Written.Failed failure) = 0
 
+  -- a read of the mode, with the reading of the time that is left for it, and that of the position to hold
+  abbrev pub reading-in : ℕ → Duration → ℕ
+  reading-in rid l = β .clock + (β .clock + β .send (Label.read rid) + β .opened l)
+
+  abbrev pub mode-reading : ℕ
+  mode-reading = reading-in 10 (millis 100)
+
+  -- after a write: a sleep and a hold frame
+  abbrev pub holding : ControlMode → ℕ
+  holding mode = β .send (Label.hold mode)
+
+  abbrev pub finishing : ControlMode → ℕ
+  finishing mode = β .clock + β .sleep + holding mode
+
+  -- a write of the mode with what comes after it, up to the end of the next read
+  abbrev pub round : ControlMode → ℕ
+  round mode = one-try 10 (mode-value mode) + more-tries 10 (mode-value mode) 2 + finishing mode + mode-reading
+
+  unfoldable pub more-rounds : ControlMode → ℕ → ℕ
+  more-rounds mode zero = 0
+  more-rounds mode (suc n) = round mode + more-rounds mode n
+
+  -- from a clearing frame on
+  abbrev pub clearing : ControlMode → ℕ
+  clearing Mit = holding Mit
+  clearing ForcePos = holding ForcePos + holding Mit
+  clearing PosVel = holding PosVel + holding ForcePos + holding Mit
+  clearing Vel = holding Vel + holding PosVel + holding ForcePos + holding Mit
+
+  abbrev pub rounds : ControlMode → ℕ
+  rounds mode = more-rounds mode 3
+
+  abbrev pub preparing : ControlMode → ℕ
+  preparing mode = reading-in 80 (millis 30) + clearing Vel + rounds mode
+
+  -- after a read that did not find the mode
+  abbrev pub unfound : ControlMode → ModeRead → ℕ
+  unfound mode First = preparing mode
+  unfound mode (Verify n) = more-rounds mode n
+
+  abbrev pub switch-left : ControlMode → κ .Known → Switch → ℕ
+  switch-left mode k Switch.Starting = β .clock + mode-reading + preparing mode
+  switch-left mode k (Switch.Remaining which p) = mode-reading + unfound mode which
+  switch-left mode k (Switch.Reading which p l ask) = ask-left (Message.ReadRegister 10) l k ask + unfound mode which
+  switch-left mode k (Switch.HoldRemaining p) = preparing mode
+  switch-left mode k (Switch.HoldReading p l ask) = ask-left (Message.ReadRegister 80) l k ask + clearing Vel + rounds mode
+  switch-left mode k (Switch.Clearing channel p) = clearing channel + rounds mode
+  switch-left mode k (Switch.Writing n p write) = write-left 10 (mode-value mode) k write + finishing mode + mode-reading + more-rounds mode n
+  switch-left mode k (Switch.Settling n p) = finishing mode + mode-reading + more-rounds mode n
+  switch-left mode k (Switch.Sleeping n p l) = β .sleep + holding mode + mode-reading + more-rounds mode n
+  switch-left mode k (Switch.Holding n p) = holding mode + mode-reading + more-rounds mode n
+
+  abbrev pub switched-left : ControlMode → κ .Known → SwitchNext → ℕ
+  switched-left mode k (Switched.Goes switch) = switch-left mode k switch
+  switched-left mode k Switched.Done = 0
+  switched-left mode k (Switched.Failed failure) = 0
+
   -- each run's machine
   abbrev pub machine-left : κ .Known → Machine → ℕ
   machine-left k (GetRegister data-type rid l ask) = ask-left (Message.ReadRegister rid) l k ask
   machine-left k (WriteRegister rid value write) = write-left rid value k write
   machine-left k (RequestFreshState l ask) = ask-left Message.RequestFeedback l k ask
   machine-left k (StoreParameters store) = store-left k store
+  machine-left k (EnsureControlMode mode l switch) = switch-left mode k switch
 
   abbrev pub left : κ .Known → Next → ℕ
   left k (Goes machine) = machine-left k machine

@@ -78,15 +78,34 @@ Unsent failure answer = send-result answer ≡ SendResult.Failed failure
 abbrev pub AskUnsent : Ask → Failure → Answer → Type 0
 AskUnsent ask failure answer = (o : Instant) × (ask ≡ Sending o) × Unsent failure answer
 
--- what a register read has seen with an answer, if it ends there
+-- a look in the call of that answer, of a read that opened with `o`: it accepts the sent, or a slept of the wait
+abbrev pub Look : Ask → Answer → Instant → Type 0
+Look Opening answer o = ⊥
+Look (Sending x) answer o = (x ≡ o) × (send-result answer ≡ SendResult.Sent)
+Look (Waiting (Checking x)) answer o = ⊥
+Look (Waiting (Napping x)) answer o = x ≡ o
+
+-- a read that is sent, or in its wait
+abbrev pub Since : Ask → Answer → Instant → Type 0
+Since Opening answer o = ⊥
+Since (Sending x) answer o = (x ≡ o) × (send-result answer ≡ SendResult.Sent)
+Since (Waiting w) answer o = wait-opening w ≡ o
+
+-- where a read goes on: to its send with the reading that opens it, or in its wait with the same opening
+abbrev pub Led-to : Ask → Answer → Ask → Type 0
+Led-to ask answer Opening = ⊥
+Led-to ask answer (Sending o) = (ask ≡ Opening) × (reading-of answer ≡ o)
+Led-to ask answer (Waiting w) = Since ask answer (wait-opening w)
+
+-- what a register read has seen with an answer
 abbrev pub ReadSaw : Duration → Entry → Ask → Answer → ReadNext → Type 0
-ReadSaw l entry ask answer (Read.Goes next) = Unit {0}
-ReadSaw l entry ask answer (Read.Got value) = (o : Instant) × (ask-opening ask ≡ some o) × Found o entry value
+ReadSaw l entry ask answer (Read.Goes next) = Led-to ask answer next
+ReadSaw l entry ask answer (Read.Got value) = (o : Instant) × Look ask answer o × Found o entry value
 ReadSaw l entry ask answer (Read.Failed failure) = AskUnsent ask failure answer ⊎ ((o : Instant) × (ask-opening ask ≡ some o) × Past o l answer × (failure ≡ Timeout))
 
 -- a read of a type: besides, that what it found is of the type, or of the other
 abbrev pub GetSaw : RegisterDataType → Duration → Entry → Ask → Answer → ReadNext → Type 0
-GetSaw data-type l entry ask answer (Read.Goes next) = Unit {0}
+GetSaw data-type l entry ask answer (Read.Goes next) = Led-to ask answer next
 GetSaw data-type l entry ask answer (Read.Got value) = ReadSaw l entry ask answer (Read.Got value) × (of-type value data-type ≡ true)
 GetSaw data-type l entry ask answer (Read.Failed failure) =
     ReadSaw l entry ask answer (Read.Failed failure) ⊎ ((value : RegisterValue) × ReadSaw l entry ask answer (Read.Got value) × (of-type value data-type ≡ false) × (failure ≡ WrongType))

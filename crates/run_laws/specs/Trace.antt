@@ -7,7 +7,9 @@ use Rattle.cache.specs.declared.Entry.{Entry}
 use Rattle.want.specs.declared.Answer.{Answer}
 use Rattle.want.specs.declared.Want.{Want}
 use Rattle.want.specs.declared.Want.the-variants.{Clock, Send, Sleep}
+use Rattle.control_mode.specs.declared.ControlMode.{ControlMode}
 use Rattle.want.specs.declared.message.Message.{Message}
+use Rattle.want.specs.declared.message.Message.the-variants.{ReadRegister, WriteRegister, RequestFeedback, Disable, StoreParams, Hold}
 
 -- an answer, with what is there for a look in that call
 pub record Given : Type 0 where
@@ -35,17 +37,32 @@ module _ (σ : System) where
   after (g ∷ gs) none = none
   after (g ∷ gs) (some m) = after gs (σ .next g m)
 
--- wants counted by their kinds, a send by its message
-abbrev pub counted : (clock : ℕ) (send : Message → ℕ) (sleep : ℕ) → Want → ℕ
+-- a message by its command: a hold whatever its position
+pub data Label : Type 0 where
+  read : (rid : ℕ) → Label
+  write : (rid bits : ℕ) → Label
+  request disable store : Label
+  hold : ControlMode → Label
+
+abbrev pub label : Message → Label
+label (ReadRegister rid) = read rid
+label (WriteRegister rid bits) = write rid bits
+label RequestFeedback = request
+label Disable = disable
+label StoreParams = store
+label (Hold mode position) = hold mode
+
+-- wants counted by their kinds, a send by its command
+abbrev pub counted : (clock : ℕ) (send : Label → ℕ) (sleep : ℕ) → Want → ℕ
 counted clock send sleep Clock = clock
-counted clock send sleep (Send message) = send message
+counted clock send sleep (Send message) = send (label message)
 counted clock send sleep (Sleep length) = sleep
 
 abbrev pub a-sleep : Want → ℕ
-a-sleep = counted 0 (λ message. 0) 1
+a-sleep = counted 0 (λ command. 0) 1
 
 abbrev pub any-want : Want → ℕ
-any-want = counted 1 (λ message. 1) 1
+any-want = counted 1 (λ command. 1) 1
 
 unfoldable pub total : (Want → ℕ) → List Want → ℕ
 total f [] = 0

@@ -64,6 +64,8 @@ star = record {
   d3-unknown = refl;
   read-ten = refl;
   force-position = refl;
+  mode-cap-of-400 = refl;
+  mode-cap-of-0 = refl;
   match-exact = refl;
   match-nan = refl;
 }

@@ -6,6 +6,7 @@ use mathlib.Core.List.{List, [], _∷_}
 use lib.Ieee.{Float, nan, binary32, neg, div}
 use Rattle.motor_core.specs.Model.{from-maxima}
 use Rattle.motor_core.specs.Name.{name-of}
+use Rattle.motor_core.specs.Time.{millis}
 use Rattle.motor_core.specs.declared.bus.CanFrame.{CanFrame}
 use Rattle.motor_core.specs.declared.time.Instant.{Instant}
 use Rattle.model_query.specs.Query.{listed}
@@ -27,6 +28,7 @@ use Rattle.received.specs.declared.status.StatusName.the-variants.{Enabled}
 use Rattle.feedback.specs.declared.FeedbackSnapshot.{FeedbackSnapshot}
 use Rattle.feedback.specs.declared.Latest.the-variants.{Snapshot}
 use Rattle.cache.specs.Cache.{held, slot-of}
+use Rattle.time_left.specs.TimeLeft.{mode-read-cap}
 use Rattle.session.specs.Session.{fresh}
 use Rattle.session.specs.declared.Session.{Session}
 use Rattle.taking.specs.Taking.{take-frame}
@@ -90,5 +92,7 @@ pub record Star : Type 0 where
   pub d3-unknown : class-of (frame 0x11 0x0F 0x33 0x25 0x01 0x00 0x00 0x00) ≡ Class.Feedback
   pub read-ten : register-read-cmd 1 10 ≡ Frame 0x7FF 0x0100_330A_0000_0000
   pub force-position : force-pos-cmd 1 0 (float 100) (float 1) ≡ Frame 0x301 0x0000_0000_1027_1027
+  pub mode-cap-of-400 : mode-read-cap (millis 400) ≡ millis 100
+  pub mode-cap-of-0 : mode-read-cap (millis 0) ≡ millis 2
   pub match-exact : match-models (list-of damiao-models) query zero ≡ listed (name-of "G6215" ∷ name-of "H6220" ∷ [])
   pub match-nan : match-models (list-of damiao-models) query nan ≡ listed []

@@ -1,0 +1,86 @@
+-- A switch that has not ended stands open, and an answer to it is accepted. Assumes nothing.
+use Prim.Native.Nat.{_≤_, _^_}
+use mathlib.Core.Path.{_≡_, refl, sym, ap, _∙_, subst}
+use mathlib.Core.List.{List, [], _∷_}
+use mathlib.Core.Option.{none, some}
+use Rattle.motor_core.specs.declared.time.Instant.{Instant}
+use Rattle.motor_core.specs.declared.time.Duration.{Duration}
+use Rattle.control_mode.specs.declared.ControlMode.{ControlMode}
+use Rattle.want.specs.declared.Answer.{Answer}
+use Rattle.want.specs.declared.Want.{Want}
+use Rattle.want.specs.declared.Want.the-variants.{Clock, Send, Sleep}
+use Rattle.ensure_mode.specs.Switch.{switch-want, switch-step}
+use Rattle.ensure_mode.specs.declared.Switch.{Switch}
+use Rattle.ensure_mode.specs.declared.SwitchNext.{SwitchNext}
+use Rattle.ensure_mode.specs.declared.SwitchNext.the-variants.{Goes, Done, Failed}
+use Rattle.machine.specs.Machine.{machine-want, machine-step}
+use Rattle.machine.specs.declared.Next.{Next}
+use Rattle.machine.specs.declared.Next.the-variants as Next
+use Rattle.machine.specs.declared.RunResult.{RunResult}
+use Rattle.machine.specs.declared.RunResult.the-variants as Result
+use Rattle.session.specs.declared.Heard.{Heard}
+use Rattle.session.specs.declared.Phase.the-variants.{Open}
+use Rattle.session.specs.declared.Session.{Session}
+use Rattle.runs.specs.Runs.{wanted, with-reading, stepped, with-step, answer-run}
+use Rattle.runs.specs.declared.Told.{Told}
+use Rattle.runs.specs.declared.Turn.{Turn as Returning}
+use Rattle.runs.proofs.Effects.{entry, answer-taken, answerable}
+use Rattle.mode_switch.specs.Claim.{answer, told, step, Gave, Turn, result-in, result-of, gave-after, Accepted}
+use Rattle.mode_switch.proofs.Ran.{machine, gave-result, Onward, Ran}
+use Rattle.mode_switch.proofs.Traced.{none≢some, no-result}
+
+wants-accepted : (h : Heard) (w : Want) → Accepted (wanted h w)
+unfolding Accepted
+wants-accepted h Clock = tt
+wants-accepted h (Send message) = tt
+wants-accepted h (Sleep length) = tt
+
+module _ (h : Heard) (mode : ControlMode) (timeout : Duration) (z : Session) where
+  abbrev Stands-open : Type 0
+  Stands-open = (p : Switch) × (z .run .phase ≡ Open (machine h mode timeout p)) × (z .heard .last .0 ≤ 2 ^ 62)
+
+  still-open : (ts : List Turn) (p : Switch) (l : Instant) → Ran h mode timeout z p l ts → result-of ts ≡ none → Stands-open
+  unfolding Ran result-of result-in
+  still-open [] p l ran e = (p, ran .0, ran .1)
+  still-open (t ∷ ts) p l (k, on) e = go (switch-step mode timeout (k .entry) p (t .answer)) on (λ q ran e. still-open ts q (with-reading (k .heard) (t .answer) .last) ran e)
+    where
+      ended : (r : RunResult) → t .gave ≡ gave-result h mode timeout r → ⊥
+      ended r gave = none≢some (sym e ∙ ap (λ (g : Gave). result-in (g .told) (result-of ts)) gave)
+
+      go : (x : SwitchNext) → Onward h mode timeout (λ q. Ran h mode timeout z q (with-reading (k .heard) (t .answer) .last) ts) x t ts
+          → ((q : Switch) → Ran h mode timeout z q (with-reading (k .heard) (t .answer) .last) ts → result-of ts ≡ none → Stands-open) → Stands-open
+      go (Goes q) (gave, ran) ih = ih q ran (sym (ap (λ (g : Gave). result-in (g .told) (result-of ts)) gave ∙ no-result h (switch-want mode q) (result-of ts)) ∙ e)
+      go Done (gave, stop) ih = absurd (ended Result.Done gave)
+      go (Failed failure) (gave, stop) ih = absurd (ended (Result.Failed failure) gave)
+
+  -- an answer that is accepted
+  abbrev Answerable : Type 0
+  Answerable = (a : Answer) × (w : Told) × (step z (answer a) .returned ≡ told w) × Accepted w
+
+  answer-accepted-in : Stands-open → Answerable
+  unfolding step Accepted
+  answer-accepted-in (p, o, last) =
+      let (a, fit, taken) = answerable (z .heard .last) (switch-want mode p) last in
+      (a, answer-run z a .told, refl, subst (λ (r : Returning). Accepted (r .told)) (sym (answer-taken z a (machine h mode timeout p) o fit taken)) (go a (machine-step (z .heard .feedback .latest) (entry z) (machine h mode timeout p) a)))
+    where
+      go : (a : Answer) (x : Next) → Accepted (with-step z (stepped (with-reading (z .heard) a) x) .told)
+      go a (Next.Goes m) = wants-accepted (with-reading (z .heard) a) (machine-want m)
+      go a (Next.Ends r) = tt
+
+  pub answered : (ts : List Turn) (p : Switch) (l : Instant) → Ran h mode timeout z p l ts → result-of ts ≡ none → Answerable
+  answered ts p l ran e = answer-accepted-in (still-open ts p l ran e)
+
+  -- one that has ended wants nothing more
+  pub closed-after : (ts : List Turn) (p : Switch) (l : Instant) (g : Gave) (r : RunResult) → Ran h mode timeout z p l ts → result-of ts ≡ some r → gave-after g ts .wants ≡ none
+  unfolding Ran result-of gave-after
+  closed-after [] p l g r ran e = absurd (none≢some e)
+  closed-after (t ∷ ts) p l g r (k, on) e = go (switch-step mode timeout (k .entry) p (t .answer)) on (λ q ran e. closed-after ts q (with-reading (k .heard) (t .answer) .last) (t .gave) r ran e)
+    where
+      last : (s : RunResult) → t .gave ≡ gave-result h mode timeout s → ts ≡ [] → gave-after (t .gave) ts .wants ≡ none
+      last s gave stop = ap (λ (ts : List Turn). gave-after (t .gave) ts .wants) stop ∙ ap (λ (g : Gave). g .wants) gave
+
+      go : (x : SwitchNext) → Onward h mode timeout (λ q. Ran h mode timeout z q (with-reading (k .heard) (t .answer) .last) ts) x t ts
+          → ((q : Switch) → Ran h mode timeout z q (with-reading (k .heard) (t .answer) .last) ts → result-of ts ≡ some r → gave-after (t .gave) ts .wants ≡ none) → gave-after (t .gave) ts .wants ≡ none
+      go (Goes q) (gave, ran) ih = ih q ran (sym (ap (λ (g : Gave). result-in (g .told) (result-of ts)) gave ∙ no-result h (switch-want mode q) (result-of ts)) ∙ e)
+      go Done (gave, stop) ih = last Result.Done gave stop
+      go (Failed failure) (gave, stop) ih = last (Result.Failed failure) gave stop

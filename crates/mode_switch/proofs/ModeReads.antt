@@ -1,0 +1,408 @@
+-- The reads of register 10 in a switch, by its definition: where they open, where they look, and what ends them. Assumes nothing.
+use Prim.Native.Nat.{ℕ, zero, suc, _≤_}
+use mathlib.Core.Path.{_≡_, refl, sym, ap, _∙_, subst}
+use mathlib.Core.Bool.{Bool, true, false, cond, true≢false}
+use mathlib.Core.Option.{Option, none, some}
+use borrow.Author.Tests.{le-leb, eqb-true, eq-eqb}
+use Rattle.motor_core.specs.declared.time.Instant.{Instant}
+use Rattle.motor_core.specs.declared.time.Duration.{Duration}
+use Rattle.registers.specs.Value.{same-value, of-type, type-of, bits-of}
+use Rattle.registers.specs.declared.RegisterDataType.the-variants as Typed
+use Rattle.registers.specs.declared.RegisterValue.{RegisterValue}
+use Rattle.registers.specs.declared.RegisterValue.the-variants.{Float, Nan, UInt32}
+use Rattle.control_mode.specs.Mode.{mode-number}
+use Rattle.control_mode.specs.declared.ControlMode.{ControlMode}
+use Rattle.control_mode.specs.declared.ControlMode.the-variants.{Mit, PosVel, Vel, ForcePos}
+use Rattle.cache.specs.declared.Entry.{Entry}
+use Rattle.cache.specs.declared.Entry.the-variants.{Empty, Held}
+use Rattle.cache.specs.declared.Place.the-variants.{Reply}
+use Rattle.want.specs.Want.{fits, reading-of, send-result}
+use Rattle.want.specs.declared.Answer.{Answer}
+use Rattle.want.specs.declared.Answer.the-variants.{Sent, Slept}
+use Rattle.want.specs.declared.Failure.{Failure}
+use Rattle.want.specs.declared.Failure.the-variants as Failure
+use Rattle.want.specs.declared.SendResult.{SendResult}
+use Rattle.want.specs.declared.SendResult.the-variants as SendResult
+use Rattle.want.specs.declared.Want.{Want}
+use Rattle.want.specs.declared.Want.the-variants.{Clock, Send, Sleep}
+use Rattle.wait.specs.Ask.{ask-sent}
+use Rattle.wait.specs.Look.{fresh-entry}
+use Rattle.wait.specs.declared.Wait.the-variants.{Checking, Napping}
+use Rattle.wait.specs.declared.ask.Ask.{Ask}
+use Rattle.wait.specs.declared.ask.Ask.the-variants.{Opening, Sending, Waiting}
+use Rattle.register_read.specs.Read.{read-want, found, read-by, get-by, get-step}
+use Rattle.register_read.specs.declared.ReadNext.{ReadNext}
+use Rattle.register_read.specs.declared.ReadNext.the-variants as Read
+use Rattle.confirmed_write.specs.declared.ack.AckWait.the-variants as Ack
+use Rattle.confirmed_write.specs.declared.Write.the-variants as Write
+use Rattle.confirmed_write.specs.declared.WriteNext.{WriteNext}
+use Rattle.confirmed_write.specs.declared.WriteNext.the-variants as Written
+use Rattle.confirmed_write.specs.Write.{write-step}
+use Rattle.ensure_mode.specs.Switch.{mode-value, with-error, prepare, not-yet, mode-read, hold-read, hold-at, finish, written, held, cleared, mode-timed, hold-timed, settled, switch-want, switch-place, switch-step}
+use Rattle.time_left.specs.TimeLeft.{mode-read-cap, hold-read-cap, capped-remaining, settle-time}
+use Rattle.time_left.specs.declared.TimeLeft.{TimeLeft}
+use Rattle.time_left.specs.declared.TimeLeft.the-variants as Left
+use Rattle.ensure_mode.specs.declared.HoldPosition.{HoldPosition}
+use Rattle.ensure_mode.specs.declared.HoldPosition.the-variants as Position
+use Rattle.ensure_mode.specs.declared.ModeRead.{ModeRead}
+use Rattle.ensure_mode.specs.declared.ModeRead.the-variants.{First, Verify}
+use Rattle.ensure_mode.specs.declared.Progress.{Progress}
+use Rattle.ensure_mode.specs.declared.Switch.{Switch}
+use Rattle.ensure_mode.specs.declared.Switch.the-variants.{Starting, Remaining, Reading, HoldRemaining, HoldReading, Clearing, Writing, Settling, Sleeping, Holding}
+use Rattle.ensure_mode.specs.declared.SwitchNext.{SwitchNext}
+use Rattle.ensure_mode.specs.declared.SwitchNext.the-variants.{Goes, Done, Failed}
+use Rattle.run_laws.specs.Ends.{wait-opening, Found, Look, Since, GetSaw}
+use Rattle.run_laws.proofs.Ends.{get-saw}
+use Rattle.mode_switch.specs.Claim.{wants-send, reads-mode}
+
+-- the read of register 10 that a phase is in
+abbrev pub mode-ask : Switch → Option Ask
+mode-ask Starting = none
+mode-ask (Remaining which p) = none
+mode-ask (Reading which p l ask) = some ask
+mode-ask (HoldRemaining p) = none
+mode-ask (HoldReading p l ask) = none
+mode-ask (Clearing channel p) = none
+mode-ask (Writing n p write) = none
+mode-ask (Settling n p) = none
+mode-ask (Sleeping n p l) = none
+mode-ask (Holding n p) = none
+
+-- what it wants, and where it looks
+module _ (mode : ControlMode) where
+  abbrev About : Switch → Option Ask → Type 0
+  About p none = Unit {0}
+  About p (some ask) = (switch-want mode p ≡ read-want 10 ask) × (switch-place p ≡ Reply 10)
+
+  about : (p : Switch) → About p (mode-ask p)
+  about Starting = tt
+  about (Remaining which p) = tt
+  about (Reading which p l ask) = (refl, refl)
+  about (HoldRemaining p) = tt
+  about (HoldReading p l ask) = tt
+  about (Clearing channel p) = tt
+  about (Writing n p write) = tt
+  about (Settling n p) = tt
+  about (Sleeping n p l) = tt
+  about (Holding n p) = tt
+
+  pub in-read : (p : Switch) (ask : Ask) → mode-ask p ≡ some ask → (switch-want mode p ≡ read-want 10 ask) × (switch-place p ≡ Reply 10)
+  in-read p ask e = subst (About p) e (about p)
+
+  -- and only a read that is to be sent wants the send of a read of register 10
+  pub ask-of : (p : Switch) → wants-send reads-mode (some (switch-want mode p)) ≡ true → (o : Instant) × (mode-ask p ≡ some (Sending o))
+  unfolding wants-send reads-mode
+  ask-of Starting e = absurd (true≢false (sym e))
+  ask-of (Remaining which p) e = absurd (true≢false (sym e))
+  ask-of (Reading which p l Opening) e = absurd (true≢false (sym e))
+  ask-of (Reading which p l (Sending o)) e = (o, refl)
+  ask-of (Reading which p l (Waiting (Checking o))) e = absurd (true≢false (sym e))
+  ask-of (Reading which p l (Waiting (Napping o))) e = absurd (true≢false (sym e))
+  ask-of (HoldRemaining p) e = absurd (true≢false (sym e))
+  ask-of (HoldReading p l Opening) e = absurd (true≢false (sym e))
+  ask-of (HoldReading p l (Sending o)) e = absurd (true≢false (sym e))
+  ask-of (HoldReading p l (Waiting (Checking o))) e = absurd (true≢false (sym e))
+  ask-of (HoldReading p l (Waiting (Napping o))) e = absurd (true≢false (sym e))
+  ask-of (Clearing channel p) e = absurd (true≢false (sym e))
+  ask-of (Writing n p (Write.Sending m)) e = absurd (true≢false (sym e))
+  ask-of (Writing n p (Write.Waiting m Ack.Opening)) e = absurd (true≢false (sym e))
+  ask-of (Writing n p (Write.Waiting m (Ack.Waiting (Checking o)))) e = absurd (true≢false (sym e))
+  ask-of (Writing n p (Write.Waiting m (Ack.Waiting (Napping o)))) e = absurd (true≢false (sym e))
+  ask-of (Writing n p (Write.Gap m)) e = absurd (true≢false (sym e))
+  ask-of (Settling n p) e = absurd (true≢false (sym e))
+  ask-of (Sleeping n p l) e = absurd (true≢false (sym e))
+  ask-of (Holding n p) e = absurd (true≢false (sym e))
+
+-- ---- one answer to a switch
+
+-- the value that is the mode's
+pub same-mode : (v : RegisterValue) (n : ℕ) → same-value v (UInt32 n) ≡ true → v ≡ UInt32 n
+unfolding same-value type-of bits-of
+same-mode (Float x) n e = absurd (true≢false (sym e))
+same-mode (Nan b) n e = absurd (true≢false (sym e))
+same-mode (UInt32 m) n e = ap UInt32 (eqb-true m n e)
+
+module _ (mode : ControlMode) (timeout : Duration) (e : Entry) (a : Answer) where
+  -- a read that is entered, by the read that was answered
+  abbrev pub Entered : Option Ask → Option Ask → Type 0
+  Entered ask none = Unit {0}
+  Entered ask (some Opening) = Unit {0}
+  Entered ask (some (Sending o)) = (ask ≡ some Opening) × (reading-of a ≡ o)
+  Entered ask (some (Waiting w)) = (q : Ask) × (ask ≡ some q) × Since q a (wait-opening w)
+
+  -- done only by a look that found the mode
+  pub record Saw (ask : Option Ask) : Type 0 where
+    pub read : Ask
+    pub is : ask ≡ some read
+    pub opening : Instant
+    pub look : Look read a opening
+    pub found : Found opening e (mode-value mode)
+
+  abbrev pub Law : Option Ask → SwitchNext → Type 0
+  Law ask (Goes q) = Entered ask (mode-ask q)
+  Law ask Done = Saw ask
+  Law ask (Failed failure) = Unit {0}
+
+  not-yet-law : (ask : Option Ask) (which : ModeRead) (p : Progress) → Law ask (not-yet mode which p)
+  not-yet-law ask First p = go mode
+    where
+      go : (m : ControlMode) → Law ask (prepare m p)
+      go Mit = tt
+      go PosVel = tt
+      go Vel = tt
+      go ForcePos = tt
+  not-yet-law ask (Verify zero) p = tt
+  not-yet-law ask (Verify (suc n)) p = tt
+
+  finish-law : (n : ℕ) (p : Progress) → Law none (finish mode n p)
+  finish-law n p = go mode
+    where
+      at : (x : HoldPosition) → Law none (hold-at n p x)
+      at Position.None = tt
+      at (Position.Some h) = tt
+
+      go : (m : ControlMode) → Law none (finish m n p)
+      go Mit = tt
+      go PosVel = at (p .«hold_position»)
+      go Vel = tt
+      go ForcePos = at (p .«hold_position»)
+
+  mode-read-law : (which : ModeRead) (p : Progress) (l : Duration) (ask : Ask) (x : ReadNext) → GetSaw Typed.UInt32 l e ask a x → Law (some ask) (mode-read mode which p l x)
+  mode-read-law which p l ask (Read.Goes Opening) saw = tt
+  mode-read-law which p l ask (Read.Goes (Sending o)) law = (ap some (law .0), law .1)
+  mode-read-law which p l ask (Read.Goes (Waiting w)) law = (ask, refl, law)
+  mode-read-law which p l ask (Read.Got v) ((o, look, seen), typed) = go (same-value v (mode-value mode)) refl
+    where
+      go : (b : Bool) → same-value v (mode-value mode) ≡ b → Law (some ask) (cond b Done (not-yet mode which (with-error p (Failure.Mismatch v))))
+      go true same = record { read = ask; is = refl; opening = o; look = look; found = subst (Found o e) (same-mode v (mode-number mode) same) seen }
+      go false same = not-yet-law (some ask) which (with-error p (Failure.Mismatch v))
+  mode-read-law which p l ask (Read.Failed Failure.Timeout) law = not-yet-law (some ask) which (with-error p Failure.Timeout)
+  mode-read-law which p l ask (Read.Failed (Failure.Mismatch v)) law = tt
+  mode-read-law which p l ask (Read.Failed Failure.WrongType) law = tt
+  mode-read-law which p l ask (Read.Failed Failure.SendFailed) law = tt
+
+  hold-read-law : (p : Progress) (l : Duration) (x : ReadNext) → Law none (hold-read p l x)
+  hold-read-law p l (Read.Goes q) = tt
+  hold-read-law p l (Read.Got v) = tt
+  hold-read-law p l (Read.Failed failure) = tt
+
+  cleared-law : (c : ControlMode) (p : Progress) → Law none (cleared c p)
+  cleared-law Mit p = tt
+  cleared-law PosVel p = tt
+  cleared-law Vel p = tt
+  cleared-law ForcePos p = tt
+
+  written-law : (n : ℕ) (p : Progress) (x : WriteNext) → Law none (written n p x)
+  written-law n p (Written.Goes w) = tt
+  written-law n p Written.Written = tt
+  written-law n p (Written.Failed failure) = tt
+
+  held-law : (n : ℕ) (p : Progress) (x : SendResult) → Law none (held n p x)
+  held-law n p SendResult.Sent = tt
+  held-law n p (SendResult.Failed failure) = tt
+
+  mode-timed-law : (which : ModeRead) (p : Progress) (x : TimeLeft) → Law none (mode-timed which p x)
+  mode-timed-law which p Left.None = tt
+  mode-timed-law which p (Left.Some l) = tt
+
+  hold-timed-law : (p : Progress) (x : TimeLeft) → Law none (hold-timed p x)
+  hold-timed-law p Left.None = tt
+  hold-timed-law p (Left.Some l) = tt
+
+  settled-law : (n : ℕ) (p : Progress) (x : TimeLeft) → Law none (settled mode n p x)
+  settled-law n p Left.None = finish-law n p
+  settled-law n p (Left.Some l) = tt
+
+  pub switch-law : (p : Switch) → Law (mode-ask p) (switch-step mode timeout e p a)
+  switch-law Starting = tt
+  switch-law (Remaining which p) = mode-timed-law which p (capped-remaining (p .deadline) (mode-read-cap timeout) (reading-of a))
+  switch-law (Reading which p l ask) = mode-read-law which p l ask (get-step Typed.UInt32 l e ask a) (get-saw l a e Typed.UInt32 ask)
+  switch-law (HoldRemaining p) = hold-timed-law p (capped-remaining (p .deadline) (hold-read-cap timeout) (reading-of a))
+  switch-law (HoldReading p l ask) = hold-read-law p l (get-step Typed.Float l e ask a)
+  switch-law (Clearing c p) = cleared-law c p
+  switch-law (Writing n p w) = written-law n p (write-step (mode-value mode) e w a)
+  switch-law (Settling n p) = settled-law n p (settle-time (p .deadline) (mode-read-cap timeout) (reading-of a))
+  switch-law (Sleeping n p l) = finish-law n p
+  switch-law (Holding n p) = held-law n p (send-result a)
+
+-- ---- a look that finds the mode ends the switch, done
+
+module _ (mode : ControlMode) (timeout : Duration) (stamp : Instant) where
+  abbrev holding-mode : Entry
+  holding-mode = Held (mode-value mode) stamp
+
+  found-done : (which : ModeRead) (p : Progress) (l : Duration) (o : Instant) → o .0 ≤ stamp .0 → mode-read mode which p l (get-by Typed.UInt32 (found o (fresh-entry o holding-mode))) ≡ Done
+  unfolding of-type same-value type-of bits-of
+  found-done which p l o fresh =
+      ap (λ (b : Bool). mode-read mode which p l (get-by Typed.UInt32 (found o (cond b holding-mode Empty)))) (le-leb (o .0) (stamp .0) fresh)
+      ∙ ap (λ (b : Bool). cond b Done (not-yet mode which (with-error p (Failure.Mismatch (mode-value mode))))) (eq-eqb (mode-number mode) (mode-number mode) refl)
+
+  abbrev pub Ends-done : Switch → Option Ask → Answer → Type 0
+  Ends-done p none a = Unit {0}
+  Ends-done p (some Opening) a = Unit {0}
+  Ends-done p (some (Sending o)) a = send-result a ≡ SendResult.Sent → o .0 ≤ stamp .0 → switch-step mode timeout holding-mode p a ≡ Done
+  Ends-done p (some (Waiting (Checking o))) a = Unit {0}
+  Ends-done p (some (Waiting (Napping o))) a = o .0 ≤ stamp .0 → switch-step mode timeout holding-mode p a ≡ Done
+
+  pub ends-done : (p : Switch) (a : Answer) → Ends-done p (mode-ask p) a
+  ends-done Starting a = tt
+  ends-done (Remaining which p) a = tt
+  ends-done (Reading which p l Opening) a = tt
+  ends-done (Reading which p l (Sending o)) a = λ sent fresh.
+      ap (λ (x : SendResult). mode-read mode which p l (get-by Typed.UInt32 (read-by holding-mode (ask-sent o x)))) sent ∙ found-done which p l o fresh
+  ends-done (Reading which p l (Waiting (Checking o))) a = tt
+  ends-done (Reading which p l (Waiting (Napping o))) a = λ fresh. found-done which p l o fresh
+  ends-done (HoldRemaining p) a = tt
+  ends-done (HoldReading p l ask) a = tt
+  ends-done (Clearing channel p) a = tt
+  ends-done (Writing n p write) a = tt
+  ends-done (Settling n p) a = tt
+  ends-done (Sleeping n p l) a = tt
+  ends-done (Holding n p) a = tt
+
+-- ---- what a switch may be in once a read is sent, until another send is wanted
+
+abbrev pub Quiet : Instant → Switch → Type 0
+Quiet o Starting = ⊥
+Quiet o (Remaining which p) = ⊥
+Quiet o (Reading which p l Opening) = ⊥
+Quiet o (Reading which p l (Sending x)) = ⊥
+Quiet o (Reading which p l (Waiting w)) = wait-opening w ≡ o
+Quiet o (HoldRemaining p) = Unit {0}
+Quiet o (HoldReading p l Opening) = Unit {0}
+Quiet o (HoldReading p l (Sending x)) = Unit {0}
+Quiet o (HoldReading p l (Waiting w)) = ⊥
+Quiet o (Clearing channel p) = Unit {0}
+Quiet o (Writing n p (Write.Sending m)) = Unit {0}
+Quiet o (Writing n p (Write.Waiting m ack)) = ⊥
+Quiet o (Writing n p (Write.Gap m)) = ⊥
+Quiet o (Settling n p) = ⊥
+Quiet o (Sleeping n p l) = ⊥
+Quiet o (Holding n p) = ⊥
+
+abbrev pub Wants-send : Want → Type 0
+Wants-send Clock = ⊥
+Wants-send (Send message) = Unit {0}
+Wants-send (Sleep length) = ⊥
+
+module _ (mode : ControlMode) (timeout : Duration) (e : Entry) (a : Answer) (o : Instant) where
+  abbrev pub Stays-quiet : SwitchNext → Type 0
+  Stays-quiet (Goes q) = Quiet o q
+  Stays-quiet Done = Unit {0}
+  Stays-quiet (Failed failure) = Unit {0}
+
+  not-yet-quiet : (which : ModeRead) (p : Progress) → Stays-quiet (not-yet mode which p)
+  not-yet-quiet First p = go mode
+    where
+      go : (m : ControlMode) → Stays-quiet (prepare m p)
+      go Mit = tt
+      go PosVel = tt
+      go Vel = tt
+      go ForcePos = tt
+  not-yet-quiet (Verify zero) p = tt
+  not-yet-quiet (Verify (suc n)) p = tt
+
+  -- a read that goes on is in its wait
+  abbrev Waits : ReadNext → Type 0
+  Waits (Read.Goes Opening) = ⊥
+  Waits (Read.Goes (Sending x)) = ⊥
+  Waits (Read.Goes (Waiting w)) = wait-opening w ≡ o
+  Waits (Read.Got value) = Unit {0}
+  Waits (Read.Failed failure) = Unit {0}
+
+  mode-read-quiet : (which : ModeRead) (p : Progress) (l : Duration) (x : ReadNext) → Waits x → Stays-quiet (mode-read mode which p l x)
+  mode-read-quiet which p l (Read.Goes Opening) w = w
+  mode-read-quiet which p l (Read.Goes (Sending x)) w = w
+  mode-read-quiet which p l (Read.Goes (Waiting x)) w = w
+  mode-read-quiet which p l (Read.Got v) w = go (same-value v (mode-value mode))
+    where
+      go : (b : Bool) → Stays-quiet (cond b Done (not-yet mode which (with-error p (Failure.Mismatch v))))
+      go true = tt
+      go false = not-yet-quiet which (with-error p (Failure.Mismatch v))
+  mode-read-quiet which p l (Read.Failed Failure.Timeout) w = not-yet-quiet which (with-error p Failure.Timeout)
+  mode-read-quiet which p l (Read.Failed (Failure.Mismatch v)) w = tt
+  mode-read-quiet which p l (Read.Failed Failure.WrongType) w = tt
+  mode-read-quiet which p l (Read.Failed Failure.SendFailed) w = tt
+
+  -- by the law of a read
+  waits : (l : Duration) (ask : Ask) (x : ReadNext) → ((i : Instant) → Since ask a i → i ≡ o) → (ask ≡ Opening → ⊥) → GetSaw Typed.UInt32 l e ask a x → Waits x
+  waits l ask (Read.Goes Opening) same sent law = law
+  waits l ask (Read.Goes (Sending x)) same sent law = sent (law .0)
+  waits l ask (Read.Goes (Waiting w)) same sent law = same (wait-opening w) law
+  waits l ask (Read.Got value) same sent law = tt
+  waits l ask (Read.Failed failure) same sent law = tt
+
+  abbrev is-sent : Ask → Type 0
+  is-sent Opening = ⊥
+  is-sent (Sending x) = Unit {0}
+  is-sent (Waiting w) = Unit {0}
+
+  hold-timed-quiet : (p : Progress) (x : TimeLeft) → Stays-quiet (hold-timed p x)
+  hold-timed-quiet p Left.None = tt
+  hold-timed-quiet p (Left.Some l) = tt
+
+  reading-quiet : (which : ModeRead) (p : Progress) (l : Duration) (ask : Ask) → is-sent ask → ((i : Instant) → Since ask a i → i ≡ o) → Stays-quiet (mode-read mode which p l (get-step Typed.UInt32 l e ask a))
+  reading-quiet which p l ask sent same =
+      mode-read-quiet which p l (get-step Typed.UInt32 l e ask a) (waits l ask (get-step Typed.UInt32 l e ask a) same (λ h. subst is-sent h sent) (get-saw l a e Typed.UInt32 ask))
+
+  -- from the send on
+  abbrev Sent-quiet : Switch → Option Ask → Type 0
+  Sent-quiet p none = Unit {0}
+  Sent-quiet p (some Opening) = Unit {0}
+  Sent-quiet p (some (Sending x)) = x ≡ o → Stays-quiet (switch-step mode timeout e p a)
+  Sent-quiet p (some (Waiting w)) = Unit {0}
+
+  sent-quiet : (p : Switch) → Sent-quiet p (mode-ask p)
+  sent-quiet Starting = tt
+  sent-quiet (Remaining which p) = tt
+  sent-quiet (Reading which p l Opening) = tt
+  sent-quiet (Reading which p l (Sending x)) = λ is. reading-quiet which p l (Sending x) tt (λ i since. sym (since .0) ∙ is)
+  sent-quiet (Reading which p l (Waiting w)) = tt
+  sent-quiet (HoldRemaining p) = tt
+  sent-quiet (HoldReading p l ask) = tt
+  sent-quiet (Clearing channel p) = tt
+  sent-quiet (Writing n p write) = tt
+  sent-quiet (Settling n p) = tt
+  sent-quiet (Sleeping n p l) = tt
+  sent-quiet (Holding n p) = tt
+
+  pub sending-quiet : (p : Switch) → mode-ask p ≡ some (Sending o) → Stays-quiet (switch-step mode timeout e p a)
+  sending-quiet p is = subst (Sent-quiet p) is (sent-quiet p) refl
+
+  pub stays-quiet : (p : Switch) → Quiet o p → (Wants-send (switch-want mode p) → ⊥) → Stays-quiet (switch-step mode timeout e p a)
+  stays-quiet Starting quiet silent = absurd quiet
+  stays-quiet (Remaining which p) quiet silent = absurd quiet
+  stays-quiet (Reading which p l Opening) quiet silent = absurd quiet
+  stays-quiet (Reading which p l (Sending x)) quiet silent = absurd quiet
+  stays-quiet (Reading which p l (Waiting w)) quiet silent = reading-quiet which p l (Waiting w) tt (λ i since. sym since ∙ quiet)
+  stays-quiet (HoldRemaining p) quiet silent = hold-timed-quiet p (capped-remaining (p .deadline) (hold-read-cap timeout) (reading-of a))
+  stays-quiet (HoldReading p l Opening) quiet silent = tt
+  stays-quiet (HoldReading p l (Sending x)) quiet silent = absurd (silent tt)
+  stays-quiet (HoldReading p l (Waiting w)) quiet silent = absurd quiet
+  stays-quiet (Clearing channel p) quiet silent = absurd (silent tt)
+  stays-quiet (Writing n p (Write.Sending m)) quiet silent = absurd (silent tt)
+  stays-quiet (Writing n p (Write.Waiting m ack)) quiet silent = absurd quiet
+  stays-quiet (Writing n p (Write.Gap m)) quiet silent = absurd quiet
+  stays-quiet (Settling n p) quiet silent = absurd quiet
+  stays-quiet (Sleeping n p l) quiet silent = absurd quiet
+  stays-quiet (Holding n p) quiet silent = absurd quiet
+
+-- in it only the read's own wait sleeps
+pub quiet-sleep : (mode : ControlMode) (o : Instant) (p : Switch) → Quiet o p → fits (switch-want mode p) Slept ≡ true → mode-ask p ≡ some (Waiting (Napping o))
+quiet-sleep mode o Starting quiet f = absurd quiet
+quiet-sleep mode o (Remaining which p) quiet f = absurd quiet
+quiet-sleep mode o (Reading which p l Opening) quiet f = absurd quiet
+quiet-sleep mode o (Reading which p l (Sending x)) quiet f = absurd quiet
+quiet-sleep mode o (Reading which p l (Waiting (Checking x))) quiet f = absurd (true≢false (sym f))
+quiet-sleep mode o (Reading which p l (Waiting (Napping x))) quiet f = ap (λ (i : Instant). some (Waiting (Napping i))) quiet
+quiet-sleep mode o (HoldRemaining p) quiet f = absurd (true≢false (sym f))
+quiet-sleep mode o (HoldReading p l Opening) quiet f = absurd (true≢false (sym f))
+quiet-sleep mode o (HoldReading p l (Sending x)) quiet f = absurd (true≢false (sym f))
+quiet-sleep mode o (HoldReading p l (Waiting w)) quiet f = absurd quiet
+quiet-sleep mode o (Clearing channel p) quiet f = absurd (true≢false (sym f))
+quiet-sleep mode o (Writing n p (Write.Sending m)) quiet f = absurd (true≢false (sym f))
+quiet-sleep mode o (Writing n p (Write.Waiting m ack)) quiet f = absurd quiet
+quiet-sleep mode o (Writing n p (Write.Gap m)) quiet f = absurd quiet
+quiet-sleep mode o (Settling n p) quiet f = absurd quiet
+quiet-sleep mode o (Sleeping n p l) quiet f = absurd quiet
+quiet-sleep mode o (Holding n p) quiet f = absurd quiet

@@ -1,0 +1,127 @@
+-- A switch's turns as a list of answers to its definition: what they gave is what that wants, in the same order. Assumes nothing.
+use Prim.Native.Nat.{ℕ, suc, _+_}
+use mathlib.Core.Path.{_≡_, refl, sym, ap, _∙_, subst}
+use mathlib.Core.Bool.{Bool, false}
+use mathlib.Core.List.{List, [], _∷_}
+use mathlib.Core.Option.{Option, none, some}
+use lib.ListN.{length}
+use Rattle.motor_core.specs.declared.time.Instant.{Instant}
+use Rattle.motor_core.specs.declared.time.Duration.{Duration}
+use Rattle.control_mode.specs.declared.ControlMode.{ControlMode}
+use Rattle.want.specs.declared.Want.{Want}
+use Rattle.want.specs.declared.Want.the-variants.{Clock, Send, Sleep}
+use Rattle.ensure_mode.specs.Switch.{switch-want, switch-step}
+use Rattle.ensure_mode.specs.declared.Switch.{Switch}
+use Rattle.ensure_mode.specs.declared.SwitchNext.{SwitchNext}
+use Rattle.ensure_mode.specs.declared.SwitchNext.the-variants.{Goes, Done, Failed}
+use Rattle.machine.specs.Machine.{after-switch}
+use Rattle.machine.specs.declared.Machine.{Machine}
+use Rattle.machine.specs.declared.RunResult.{RunResult}
+use Rattle.machine.specs.declared.RunResult.the-variants as Result
+use Rattle.session.specs.declared.Heard.{Heard}
+use Rattle.session.specs.declared.Session.{Session}
+use Rattle.runs.specs.Runs.{wanted, with-reading}
+use Rattle.run_laws.specs.Clock.{known-after, All-fine, Clock as Known, moving, Moving}
+use Rattle.run_laws.specs.Systems.{running-on, running}
+use Rattle.run_laws.specs.Trace.{Given, wants-from, after}
+use Rattle.run_laws.specs.Trace as Trace
+use Rattle.mode_switch.specs.Claim.{Gave, Turn, gaves, once, count, result-in, result-of, reading-or, next-reading, All-move}
+use Rattle.mode_switch.proofs.Moving.{Behind, Pending, Goes-on, goes-on}
+use Rattle.mode_switch.proofs.Ran.{machine, gave-want, gave-result, Took, Onward, Ran}
+
+pub none≢some : {A : Type 0} {x : A} → none ≡ some x → ⊥
+none≢some {A} e = subst is-none e tt
+  where
+    is-none : Option A → Type 0
+    is-none none = Unit {0}
+    is-none (some x) = ⊥
+
+-- a want is no result
+pub no-result : (h : Heard) (w : Want) (later : Option RunResult) → result-in (wanted h w) later ≡ later
+unfolding result-in
+no-result h Clock later = refl
+no-result h (Send message) later = refl
+no-result h (Sleep length) later = refl
+
+module _ (h : Heard) (mode : ControlMode) (timeout : Duration) where
+  abbrev at : Switch → Option Machine
+  at p = some (machine h mode timeout p)
+
+  abbrev want-of : Switch → Gave
+  want-of p = gave-want h mode timeout p
+
+  pub record Traced (p : Switch) (l : Instant) (ts : List Turn) : Type 0 where
+    pub gs : List Given
+    pub as-many : length gs ≡ length ts
+    pub counts : (f : Gave → Bool) (w : Want → ℕ) → ((q : Switch) → once (f (want-of q)) ≡ w (switch-want mode q)) → ((r : RunResult) → f (gave-result h mode timeout r) ≡ false)
+        → count f (want-of p ∷ gaves ts) ≡ Trace.total w (wants-from running gs (at p))
+    pub ended : after running gs (at p) ≡ none → (r : RunResult) × (result-of ts ≡ some r)
+    pub moves : (k : Known) → Behind (k .last) l → Pending k (next-reading ts) → All-move (k .last) (want-of p .told) ts → Moving running gs k (at p)
+
+  module _ (p : Switch) (l : Instant) where
+    none-yet : Traced p l []
+    unfolding gaves count Trace.total wants-from after All-fine
+    none-yet = record {
+      gs = [];
+      as-many = refl;
+      counts = λ f w same never. ap (λ (n : ℕ). n + 0) (same p);
+      ended = λ e. absurd (none≢some (sym e));
+      moves = λ k b pending m. tt;
+    }
+
+    module _ (t : Turn) (ts : List Turn) (k : Took h mode timeout p l t) where
+      abbrev given : Given
+      given = record { answer = t .answer; latest = k .heard .feedback .latest; entry = k .entry }
+
+      abbrev stepped : SwitchNext → Option Machine
+      stepped x = running-on (after-switch mode timeout x)
+
+      abbrev next : SwitchNext
+      next = switch-step mode timeout (k .entry) p (t .answer)
+
+      fine-on : (k′ : Known) → Behind (k′ .last) l → Pending k′ (next-reading (t ∷ ts)) → All-move (k′ .last) (want-of p .told) (t ∷ ts) → Goes-on (switch-want mode p) (t .answer) k′ (k .heard) (next-reading ts)
+      unfolding next-reading All-move
+      fine-on k′ b pending m = goes-on h k′ l (k .heard) (k .since) b (next-reading ts) (switch-want mode p) (t .answer) (k .fit) (k .accepted) pending (m .0)
+
+      goes : (q : Switch) → next ≡ Goes q → t .gave ≡ want-of q → Traced q (with-reading (k .heard) (t .answer) .last) ts → Traced p l (t ∷ ts)
+      unfolding gaves count Trace.total wants-from after All-fine result-of All-move
+      goes q e gave rest = record {
+        gs = given ∷ rest .gs;
+        as-many = ap suc (rest .as-many);
+        counts = λ f w same never.
+            (λ i. same p i + (ap (λ (g : Gave). count f (g ∷ gaves ts)) gave ∙ rest .counts f w same never) i)
+            ∙ sym (ap (λ (x : SwitchNext). w (switch-want mode p) + Trace.total w (wants-from running (rest .gs) (stepped x))) e);
+        ended = λ done.
+            let r = rest .ended (sym (ap (λ (x : SwitchNext). after running (rest .gs) (stepped x)) e) ∙ done) in
+            (r .0, ap (λ (g : Gave). result-in (g .told) (result-of ts)) gave ∙ no-result h (switch-want mode q) (result-of ts) ∙ r .1);
+        moves = λ k′ b pending m.
+            let on = fine-on k′ b pending m in
+            let k″ = known-after moving (switch-want mode p) (t .answer) k′ in (
+              on .is-fine,
+              subst (λ (x : SwitchNext). Moving running (rest .gs) k″ (stepped x)) (sym e)
+                  (rest .moves k″ (on .behind) (on .pending)
+                  (subst (λ (o : Option Instant). All-move o (want-of q .told) ts) (sym (on .read)) (subst (λ (g : Gave). All-move (reading-or (t .answer) (k′ .last)) (g .told) ts) gave (m .1)))),
+            );
+      }
+
+      ends : (r : RunResult) → stepped next ≡ none → t .gave ≡ gave-result h mode timeout r → ts ≡ [] → Traced p l (t ∷ ts)
+      unfolding gaves count Trace.total wants-from after All-fine result-of result-in length
+      ends r e gave stop = record {
+        gs = given ∷ [];
+        as-many = ap (λ (ts : List Turn). suc (length ts)) (sym stop);
+        counts = λ f w same never.
+            (λ i. same p i + (ap (λ (ts : List Turn). count f (t .gave ∷ gaves ts)) stop ∙ ap (λ (g : Gave). once (f g) + 0) gave ∙ ap (λ (b : Bool). once b + 0) (never r)) i)
+            ∙ sym (ap (λ (x : Option Machine). w (switch-want mode p) + Trace.total w (wants-from running [] x)) e);
+        ended = λ done. (r, ap (λ (g : Gave). result-in (g .told) (result-of ts)) gave);
+        moves = λ k′ b pending m. (fine-on k′ b pending m .is-fine, tt);
+      }
+
+      onward : (R : Switch → Type 0) → ((q : Switch) → R q → Traced q (with-reading (k .heard) (t .answer) .last) ts) → (x : SwitchNext) → next ≡ x → Onward h mode timeout R x t ts → Traced p l (t ∷ ts)
+      onward R rest (Goes q) e (gave, r) = goes q e gave (rest q r)
+      onward R rest Done e (gave, stop) = ends Result.Done (ap stepped e) gave stop
+      onward R rest (Failed failure) e (gave, stop) = ends (Result.Failed failure) (ap stepped e) gave stop
+
+  pub traced : (z : Session) (ts : List Turn) (p : Switch) (l : Instant) → Ran h mode timeout z p l ts → Traced p l ts
+  unfolding Ran
+  traced z [] p l r = none-yet p l
+  traced z (t ∷ ts) p l (k, on) = onward p l t ts k (λ q. Ran h mode timeout z q (with-reading (k .heard) (t .answer) .last) ts) (λ q r. traced z ts q (with-reading (k .heard) (t .answer) .last) r) (switch-step mode timeout (k .entry) p (t .answer)) refl on
