@@ -328,6 +328,43 @@ fn hold_positions_keep_their_bits() {
 }
 
 #[test]
+fn the_most_that_a_switch_wants() {
+    let mut oracle = Oracle::default();
+    let mut counts = Vec::new();
+    // The last reading, and the sleeps since.
+    let mut last = 0;
+    let mut naps: Vec<u64> = Vec::new();
+    for line in include_str!("../worst.script").lines() {
+        let mut answer = Vec::new();
+        oracle.line(line.as_bytes(), &mut answer);
+        let answer = String::from_utf8(answer).expect("text");
+        if line.starts_with("mode ") {
+            counts.push([0; 5]);
+        }
+        let Some([sends, reads, writes, sleeps, answers]) = counts.last_mut() else {
+            continue;
+        };
+        let answers_a_want = |word| line.split(' ').next() == Some(word);
+        *sends += u32::from(answer.starts_with("want send"));
+        *reads += u32::from(answer.starts_with("want send 2047 0100330A"));
+        *writes += u32::from(answer.starts_with("want send 2047 0100550A"));
+        *sleeps += u32::from(answer.starts_with("want sleep"));
+        *answers += u32::from(["clock", "sent", "slept"].into_iter().any(answers_a_want));
+        if let Some(reading) = line.strip_prefix("clock ") {
+            let reading = reading.parse().expect("a reading");
+            assert!(naps.iter().all(|nap| last + nap <= reading), "{line}");
+            last = reading;
+            naps.clear();
+        }
+        if let Some(nap) = answer.strip_prefix("want sleep ") {
+            naps.push(nap.trim().parse().expect("a length"));
+        }
+    }
+    let most = |answers| [21, 4, 9, 449, answers];
+    assert_eq!(counts, [most(944), most(943), most(942)]);
+}
+
+#[test]
 fn a_fresh_session_replaces_an_open_run() {
     let mut oracle = Oracle::default();
     for _ in 0..10_000 {

@@ -1,12 +1,15 @@
 // What runs want and come to where it is easily believed otherwise; runs that no start makes.
+use crate::sessions::of_motor;
 use crate::sessions::started;
 use crate::sessions::take;
 use crate::text;
+use libc::STDOUT_FILENO;
 use machine::Machine;
 use machine::RunResult;
 use motor_core::time::Duration;
 use motor_core::time::Instant;
 use registers::RegisterDataType;
+use run_starts::ensure_control_mode;
 use run_starts::get_register_f32;
 use run_starts::get_register_u32;
 use run_starts::write_register_u32;
@@ -23,19 +26,36 @@ use want::Failure;
 
 const MINUTE: Duration = Duration(60_000_000_000);
 
-// A reply of register 10, and an ack; each holds 1.
+// A reply of register 10, and an ack; each holds 1. Then an ack that holds 2.
 const REPLY: u64 = 0x1100_330a_0100_0000;
 
 const ACK: u64 = 0x1100_550a_0100_0000;
 
+const ACK_TWO: u64 = 0x1100_550a_0200_0000;
+
+// Replies of register 80: a NaN, and the positions that make a frame which holds them the read of
+// register 10, for the motors 0x4FF and 0x6FF.
+const NAN_POSITION: u64 = 0x1100_3350_4523_c17f;
+
+const POSITION_4FF: u64 = 0x1f00_3350_ff04_330a;
+
+const POSITION_6FF: u64 = 0x1f00_3350_ff06_330a;
+
 fn put_told(told: Told) {
     match told {
         Told::WantClock => text(b" clock"),
-        Told::WantSend(_, _) => text(b" send"),
+        Told::WantSend(id, data) => put_send(id, data),
         Told::WantSleep(_) => text(b" sleep"),
         Told::Result(result) => put_result(result),
         Told::Refused(_) => text(b" refused"),
     }
+}
+
+fn put_send(id: u32, data: u64) {
+    text(b" send ");
+    io::print_hex(STDOUT_FILENO, id as u64, 1);
+    text(b" ");
+    io::print_hex(STDOUT_FILENO, data, 16);
 }
 
 fn put_result(result: RunResult) {
@@ -69,14 +89,34 @@ fn heard(session: Session, data: u64) -> Session {
     taking.session
 }
 
-// A step by its letter: a reply or an ack, stamped 6, or an answer, of which a reading is 5 or 7.
+// A step by its letter: a frame, stamped 6, or an answer, of which a reading is 5 to 7.
 fn step(session: Session, letter: u8) -> Session {
     match letter {
-        b'r' => heard(session, REPLY),
-        b'a' => heard(session, ACK),
-        b'5' => told(answer_run(session, Answer::Reading(Instant(5)))),
-        b'7' => told(answer_run(session, Answer::Reading(Instant(7)))),
-        _ => told(answer_run(session, Answer::Sent)),
+        b'r' | b'a' | b'b' | b'n' | b'p' | b'q' => heard(session, data_of(letter)),
+        _ => told(answer_run(session, answer_of(letter))),
+    }
+}
+
+fn data_of(letter: u8) -> u64 {
+    match letter {
+        b'r' => REPLY,
+        b'a' => ACK,
+        b'b' => ACK_TWO,
+        b'n' => NAN_POSITION,
+        b'p' => POSITION_4FF,
+        _ => POSITION_6FF,
+    }
+}
+
+fn answer_of(letter: u8) -> Answer {
+    match letter {
+        b'5' => Answer::Reading(Instant(5)),
+        b'6' => Answer::Reading(Instant(6)),
+        b'7' => Answer::Reading(Instant(7)),
+        b't' => Answer::SendTimeout,
+        b'f' => Answer::SendFailed,
+        b'z' => Answer::Slept,
+        _ => Answer::Sent,
     }
 }
 
@@ -88,6 +128,54 @@ fn play(name: &[u8], begun: Turn, letters: &[u8]) {
         session = step(session, letters[i]);
     }
     text(b"\n");
+}
+
+fn switches() {
+    // A failed send in a mode read ends the switch only where it did not time out.
+    play(
+        b"a switch, its first send failed as timeout:",
+        ensure_control_mode(started(), 1, MINUTE),
+        b"555t",
+    );
+    play(
+        b"otherwise:",
+        ensure_control_mode(started(), 1, MINUTE),
+        b"555f",
+    );
+    // At the deadline 0 ns remain, and the mode is still read.
+    play(
+        b"a switch at its deadline:",
+        ensure_control_mode(started(), 1, Duration(0)),
+        b"555s5",
+    );
+    play(
+        b"past it:",
+        ensure_control_mode(started(), 1, Duration(0)),
+        b"57",
+    );
+    // The velocity mode's switch does not read register 80.
+    play(
+        b"to the velocity mode:",
+        ensure_control_mode(started(), 3, MINUTE),
+        b"555tssss",
+    );
+    // A NaN's bits travel, to the frames that clear and to the one that holds.
+    play(
+        b"with the position 7FC12345:",
+        ensure_control_mode(started(), 2, MINUTE),
+        b"555t55nssssssb66z",
+    );
+    // A clearing frame may have the read's id and bytes.
+    play(
+        b"motor 4FF, position 0A3304FF:",
+        ensure_control_mode(of_motor(0x4ff), 1, MINUTE),
+        b"555t55pssss",
+    );
+    play(
+        b"motor 6FF, position 0A3306FF:",
+        ensure_control_mode(of_motor(0x6ff), 1, MINUTE),
+        b"555t55qssss",
+    );
 }
 
 fn reading(rid: u8, timeout: Duration, ask: Ask) -> Run {
@@ -131,6 +219,7 @@ pub(crate) fn run() {
         get_register_f32(started(), 10, Duration(0)),
         b"5s5",
     );
+    switches();
     made_up(
         b"opening FFFFFFFFFFFFFFFF, length 3, reading 5:",
         10,

@@ -30,7 +30,11 @@ fn maxima(p_max: f32) -> Maxima {
 }
 
 pub(crate) fn started() -> Session {
-    let start = from_limits(1, 0x11, maxima(12.5));
+    of_motor(1)
+}
+
+pub(crate) fn of_motor(motor_id: u16) -> Session {
+    let start = from_limits(motor_id, 0x11, maxima(12.5));
     start.session
 }
 

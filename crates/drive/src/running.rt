@@ -4,6 +4,7 @@ use crate::fields::low8;
 use crate::fields::low32;
 use motor_core::time::Duration;
 use motor_core::time::Instant;
+use run_starts::ensure_control_mode;
 use run_starts::get_register_f32;
 use run_starts::get_register_u32;
 use run_starts::request_fresh_state;
@@ -25,7 +26,8 @@ pub(crate) fn started(session: Session, call: Call) -> Turn {
         calls::WRITE_U32 => write_register_u32(session, low8(a[0]), low32(a[1])),
         calls::WRITE_F32 => write_register_f32(session, low8(a[0]), bits(a[1])),
         calls::FRESH_STATE => request_fresh_state(session, Duration(a[0])),
-        _ => store_parameters(session),
+        calls::STORE => store_parameters(session),
+        _ => ensure_control_mode(session, low32(a[0]), Duration(a[1])),
     }
 }
 

@@ -62,7 +62,7 @@ pub(crate) fn answer(state: State, call: Call, line: &[u8]) -> Step {
 fn answer_in(session: Session, call: Call) -> Step {
     let code = call.code;
     match code {
-        calls::GET_U32..=calls::STORE => turned(running::started(session, call)),
+        calls::GET_U32..=calls::MODE => turned(running::started(session, call)),
         calls::CLOCK..=calls::SLEPT => turned(running::answered(session, call)),
         calls::FRAME => take(session, call),
         calls::PATCH => patch(session, call),
@@ -150,7 +150,7 @@ fn patch(session: Session, call: Call) -> Step {
     in_use(after, Reply::Patched(done.patched))
 }
 
-// The calls that leave the session as it is, and those whose engine is to come.
+// The call that leaves the session as it is, and the one whose engine is to come.
 fn look(session: Session, call: Call) -> Step {
     let heard = session.heard;
     in_use(session, seen(heard, call))

@@ -212,7 +212,7 @@ fn run_line(rng: &mut Rng, runs: &mut Runs, session: &Session, family: Family) -
         3 => rng
             .pick(&[b"sent".as_slice(), b"slept", b"clock 0"])
             .to_vec(),
-        _ if family == Mode => runs.start_mode(rng),
+        _ if family == Mode && !rng.chance(10) => runs.start_mode(rng),
         _ => runs.start(rng),
     }
 }

@@ -47,6 +47,8 @@ struct Temper {
     blunders: u64,
     /// Lines since the last send after which the clock leaps on.
     patience: u64,
+    /// The clock leaps to the end of a wait or little beyond, and acks come once their wait is open.
+    steady: bool,
 }
 
 impl Temper {
@@ -76,6 +78,24 @@ impl Temper {
                 1..=3 => 120,
                 _ => rng.pick(&[0, 3, 6, 12, 25, 50]),
             },
+            steady: false,
+        }
+    }
+
+    /// One with which a switch comes to its later reads.
+    fn steady(rng: &mut Rng) -> Self {
+        Temper {
+            clock: rng.pick(&[Clock::Stands, Clock::Honest, Clock::Honest, Clock::Slow]),
+            replies: rng.pick(&[60, 90, 100, 100]),
+            right_at_first: rng.pick(&[0, 0, 0, 10]),
+            right: rng.pick(&[0, 0, 20, 50]),
+            right_ack: rng.pick(&[50, 80, 100]),
+            early: rng.pick(&[0, 0, 0, 30]),
+            delay: rng.pick(&[0, 1, 3]),
+            send_fails: rng.pick(&[0, 1, 4]),
+            patience: rng.pick(&[6, 12, 25, 120]),
+            steady: true,
+            ..Temper::draw(rng)
         }
     }
 }
@@ -113,6 +133,10 @@ pub struct Runs {
     asked: Option<(Asked, u64)>,
     /// Whether a write was wanted.
     written: bool,
+    /// How often register 10 was read.
+    mode_reads: u64,
+    /// The last send's ack came, with the value written.
+    acked: bool,
     /// Lines since the last send.
     lines: u64,
 }
@@ -133,6 +157,8 @@ impl Runs {
             send_seen: false,
             asked: None,
             written: false,
+            mode_reads: 0,
+            acked: false,
             lines: 0,
         }
     }
@@ -179,13 +205,21 @@ impl Runs {
     /// The start of a switch.
     pub fn start_mode(&mut self, rng: &mut Rng) -> Vec<u8> {
         *self = Runs::new(rng);
+        let steady = rng.chance(60);
+        if steady {
+            self.temper = Temper::steady(rng);
+        }
         let mode = match rng.below(40) {
             0 => rng.pick(&[0, 5, 256, 257, 0x1_0001, u32::MAX]),
             1 => rng.next() as u32,
             _ => 1 + rng.below(4) as u32,
         };
         self.mode = Some(mode);
-        self.timeout = timeout(rng);
+        self.timeout = if steady && rng.chance(50) {
+            rng.below(4_000 * MS)
+        } else {
+            timeout(rng)
+        };
         Text::new("mode")
             .number(rng, mode)
             .number(rng, self.timeout)
@@ -229,7 +263,9 @@ impl Runs {
             Want::Send { id, data } => {
                 self.send_seen = false;
                 self.lines = 0;
-                if rng.chance(self.temper.send_fails) {
+                // Few runs come to their late sends.
+                let late = if self.mode_reads > 2 { 5 } else { 0 };
+                if rng.chance(self.temper.send_fails + late) {
                     self.asked = self.asked.filter(|_| rng.chance(30));
                     rng.pick(&[b"send-timeout".as_slice(), b"send-failed"])
                         .to_vec()
@@ -269,9 +305,12 @@ impl Runs {
         if let Want::Send { id, data } = want {
             if !self.send_seen {
                 self.send_seen = true;
+                self.acked = false;
                 self.opening = self.readings[3];
                 self.wait = self.wait_of(request(id, data));
                 self.written |= matches!(request(id, data), Some(Asked::Ack { .. }));
+                self.mode_reads +=
+                    u64::from(matches!(request(id, data), Some(Asked::Reply { rid: 10 })));
                 self.asked = request(id, data)
                     .filter(|_| rng.chance(self.temper.replies))
                     .map(|asked| {
@@ -282,8 +321,8 @@ impl Runs {
             }
         }
         let (asked, delay) = self.asked.as_mut()?;
-        if *delay > 0 {
-            *delay -= 1;
+        if *delay > 0 || self.temper.steady && self.opens {
+            *delay = delay.saturating_sub(1);
             return None;
         }
         let asked = *asked;
@@ -295,6 +334,7 @@ impl Runs {
             _ if self.written => self.temper.right,
             _ => self.temper.right_at_first,
         });
+        self.acked |= right && matches!(asked, Asked::Ack { .. });
         let d0 = session.motor_id() as u8;
         let data = match asked {
             Asked::Reply { rid } => {
@@ -323,8 +363,10 @@ impl Runs {
                 0 => rng.next() as u32,
                 _ => rng.below(6) as u32,
             },
-            // The bits with which a frame to hold the position is a read of register 10.
-            Some(_) if rng.chance(10) => 0x0A33_0000 | u32::from(session.motor_id()),
+            // The bits with which a frame to hold the position is a read of register 10, or a write.
+            Some(_) if rng.chance(if on_7ff(session) { 50 } else { 5 }) => {
+                rng.pick(&[0x0A33_0000, 0x0A33_0000, 0x0A55_0000]) | u32::from(session.motor_id())
+            }
             _ => values::any_float(rng),
         }
     }
@@ -332,13 +374,17 @@ impl Runs {
     /// A reading for the run, as its clock behaves.
     fn reading(&self, rng: &mut Rng, last: u64) -> u64 {
         let leap = self.lines > self.temper.patience;
-        let clock = if rng.chance(4) {
+        let steady = self.temper.steady;
+        let clock = if rng.chance(4) && !steady {
             rng.pick(&[Clock::Stands, Clock::Leaps, Clock::Edges])
         } else {
             self.temper.clock
         };
         let on = |by: u64| last.saturating_add(by);
-        if rng.below(500) == 0 {
+        if self.mode.is_some() && self.acked && !self.opens && rng.chance(15) {
+            return self.settling(rng).max(last).min(LAST_READING);
+        }
+        if rng.below(if steady { 5000 } else { 500 }) == 0 {
             // at the end of the clock, or so near that the wait's deadline is beyond it
             let short = rng.pick(&[0, 1, MS, self.timeout.min(61_000 * MS)]);
             return (LAST_READING - rng.below(short + 1)).max(last);
@@ -349,6 +395,7 @@ impl Runs {
         }
         if leap && rng.chance(40) {
             let wait = match rng.below(8) {
+                _ if steady => self.wait,
                 0 => self.timeout.min(61_000 * MS),
                 1 => self.timeout.min(100 * MS),
                 2 => 1 << rng.below(50),
@@ -377,6 +424,20 @@ impl Runs {
             Clock::Edges => self.edge(rng, last),
         };
         reading.min(LAST_READING)
+    }
+
+    /// A reading after which a switch has time for all of its settling sleep, a part of it or none.
+    fn settling(&self, rng: &mut Rng) -> u64 {
+        let from_start = self.readings[0].saturating_add(self.timeout);
+        let sleep = match rng.below(4) {
+            0 => 0,
+            1 => 20 * MS,
+            2 => 1,
+            _ => rng.below(20 * MS),
+        };
+        from_start
+            .saturating_sub(self.mode_cap() + sleep)
+            .saturating_add_signed(rng.around(1))
     }
 
     /// A reading at a deadline, or one nanosecond off, as far as it is not past.
@@ -468,6 +529,11 @@ impl Runs {
             _ => sessions::frame(rng, session),
         }
     }
+}
+
+/// Whether frames that hold a position go where registers are read and written.
+fn on_7ff(session: &Session) -> bool {
+    matches!(session.motor_id(), 0x4FF | 0x6FF)
 }
 
 /// What a sent frame asks of the motor.
