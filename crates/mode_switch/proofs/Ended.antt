@@ -27,7 +27,7 @@ use Rattle.runs.specs.declared.Turn.{Turn as Returning}
 use Rattle.runs.proofs.Effects.{entry, answer-taken, answerable}
 use Rattle.mode_switch.specs.Claim.{answer, told, step, Gave, Turn, result-in, result-of, gave-after, Accepted}
 use Rattle.mode_switch.proofs.Ran.{machine, gave-result, Onward, Ran}
-use Rattle.mode_switch.proofs.Traced.{none≢some, no-result}
+use Rattle.mode_switch.proofs.Traced.{none≢some, want-on, end-of}
 
 wants-accepted : (h : Heard) (w : Want) → Accepted (wanted h w)
 unfolding Accepted
@@ -45,11 +45,11 @@ module _ (h : Heard) (mode : ControlMode) (timeout : Duration) (z : Session) whe
   still-open (t ∷ ts) p l (k, on) e = go (switch-step mode timeout (k .entry) p (t .answer)) on (λ q ran e. still-open ts q (with-reading (k .heard) (t .answer) .last) ran e)
     where
       ended : (r : RunResult) → t .gave ≡ gave-result h mode timeout r → ⊥
-      ended r gave = none≢some (sym e ∙ ap (λ (g : Gave). result-in (g .told) (result-of ts)) gave)
+      ended r gave = none≢some (sym e ∙ end-of h mode timeout t ts r gave)
 
       go : (x : SwitchNext) → Onward h mode timeout (λ q. Ran h mode timeout z q (with-reading (k .heard) (t .answer) .last) ts) x t ts
           → ((q : Switch) → Ran h mode timeout z q (with-reading (k .heard) (t .answer) .last) ts → result-of ts ≡ none → Stands-open) → Stands-open
-      go (Goes q) (gave, ran) ih = ih q ran (sym (ap (λ (g : Gave). result-in (g .told) (result-of ts)) gave ∙ no-result h (switch-want mode q) (result-of ts)) ∙ e)
+      go (Goes q) (gave, ran) ih = ih q ran (sym (want-on h mode timeout t ts q gave) ∙ e)
       go Done (gave, stop) ih = absurd (ended Result.Done gave)
       go (Failed failure) (gave, stop) ih = absurd (ended (Result.Failed failure) gave)
 
@@ -81,6 +81,6 @@ module _ (h : Heard) (mode : ControlMode) (timeout : Duration) (z : Session) whe
 
       go : (x : SwitchNext) → Onward h mode timeout (λ q. Ran h mode timeout z q (with-reading (k .heard) (t .answer) .last) ts) x t ts
           → ((q : Switch) → Ran h mode timeout z q (with-reading (k .heard) (t .answer) .last) ts → result-of ts ≡ some r → gave-after (t .gave) ts .wants ≡ none) → gave-after (t .gave) ts .wants ≡ none
-      go (Goes q) (gave, ran) ih = ih q ran (sym (ap (λ (g : Gave). result-in (g .told) (result-of ts)) gave ∙ no-result h (switch-want mode q) (result-of ts)) ∙ e)
+      go (Goes q) (gave, ran) ih = ih q ran (sym (want-on h mode timeout t ts q gave) ∙ e)
       go Done (gave, stop) ih = last Result.Done gave stop
       go (Failed failure) (gave, stop) ih = last (Result.Failed failure) gave stop

@@ -39,11 +39,11 @@ use Rattle.session.specs.declared.Heard.{Heard}
 use Rattle.session.specs.declared.Session.{Session}
 use Rattle.runs.specs.Runs.{wanted, with-reading}
 use Rattle.run_laws.specs.Ends.{wait-opening, Look, Since}
-use Rattle.mode_switch.specs.Claim.{Gave, Turn, gaves, once, count, a-send, on-7ff, wants-send, reads-mode, mode-read, result-in, result-of, reading-or, gave-after, reading-after, Looks, Found}
+use Rattle.mode_switch.specs.Claim.{Gave, Turn, gaves, once, count, a-send, on-7ff, wants-send, reads-mode, mode-read, result-of, reading-or, gave-after, reading-after, Looks, Found}
 use Rattle.mode_switch.proofs.ModeReads.{mode-ask, in-read, ask-of, Saw, Entered, Law, switch-law, Ends-done, ends-done, Quiet, Wants-send, Stays-quiet, sending-quiet, stays-quiet, quiet-sleep}
 use Rattle.mode_switch.proofs.Ran.{gave-want, gave-result, Took, Onward, Ran}
 use Rattle.mode_switch.proofs.Told.{reads-alike}
-use Rattle.mode_switch.proofs.Traced.{none≢some, no-result}
+use Rattle.mode_switch.proofs.Traced.{none≢some, want-on, end-of}
 
 -- an answer of the kind that is wanted
 pub clock-read : (r : Option Instant) (a : Answer) → fits Clock a ≡ true → reading-or a r ≡ some (reading-of a)
@@ -138,15 +138,6 @@ module _ (h : Heard) (mode : ControlMode) (timeout : Duration) where
 
   abbrev sends-in : Gave → ℕ
   sends-in g = once (sending g)
-
-  -- a want is no result, and a result is that one
-  want-on : (t : Turn) (ts : List Turn) (q : Switch) → t .gave ≡ want-of q → result-of (t ∷ ts) ≡ result-of ts
-  unfolding result-of
-  want-on t ts q gave = ap (λ (g : Gave). result-in (g .told) (result-of ts)) gave ∙ no-result h (switch-want mode q) (result-of ts)
-
-  end-of : (t : Turn) (ts : List Turn) (r : RunResult) → t .gave ≡ gave-result h mode timeout r → result-of (t ∷ ts) ≡ some r
-  unfolding result-of result-in
-  end-of t ts r gave = ap (λ (g : Gave). result-in (g .told) (result-of ts)) gave
 
   -- what a read that is sent wants is a read of register 10
   pub is-read : (p : Switch) (o : Instant) → mode-ask p ≡ some (Sending o) → mode-read motor (want-of p) ≡ true
@@ -313,9 +304,9 @@ module _ (h : Heard) (mode : ControlMode) (timeout : Duration) where
 
     onward-sought : (R : Switch → Type 0) → ((q : Switch) → R q → Opened (reading-or (t .answer) r) q → result-of ts ≡ some Result.Done → Sought (reading-or (t .answer) r) q ts)
         → (x : SwitchNext) → next ≡ x → Onward h mode timeout R x t ts → result-of (t ∷ ts) ≡ some Result.Done → Sought r p (t ∷ ts)
-    onward-sought R rest (Goes q) e (gave, ran) done = seek-goes q e gave (rest q ran (opened-on p q r (k .entry) (t .answer) (k .fit) e) (sym (want-on t ts q gave) ∙ done))
+    onward-sought R rest (Goes q) e (gave, ran) done = seek-goes q e gave (rest q ran (opened-on p q r (k .entry) (t .answer) (k .fit) e) (sym (want-on h mode timeout t ts q gave) ∙ done))
     onward-sought R rest Done e (gave, stop) done = seek-done e gave stop
-    onward-sought R rest (Failed failure) e (gave, stop) done = absurd (not-done failure (sym (end-of t ts (Result.Failed failure) gave) ∙ done))
+    onward-sought R rest (Failed failure) e (gave, stop) done = absurd (not-done failure (sym (end-of h mode timeout t ts (Result.Failed failure) gave) ∙ done))
 
   sought : (z : Session) (ts : List Turn) (p : Switch) (l : Instant) (r : Option Instant) → Ran h mode timeout z p l ts → Opened r p → result-of ts ≡ some Result.Done → Sought r p ts
   unfolding Ran result-of
@@ -365,7 +356,7 @@ module _ (h : Heard) (mode : ControlMode) (timeout : Duration) where
             → Reached (gave-after (t .gave) before) (reading-after (reading-or (t .answer) r) before) rest × (result-of (t ∷ (before ++ rest)) ≡ result-of rest)
         go (Goes q) e (gave, ran) ih =
             let x = ih q ran (opened-on p q r (k .entry) (t .answer) (k .fit) e) in
-            (subst (λ (g : Gave). Reached (gave-after g before) (reading-after (reading-or (t .answer) r) before) rest) (sym gave) (x .0), want-on t (before ++ rest) q gave ∙ x .1)
+            (subst (λ (g : Gave). Reached (gave-after g before) (reading-after (reading-or (t .answer) r) before) rest) (sym gave) (x .0), want-on h mode timeout t (before ++ rest) q gave ∙ x .1)
         go Done e (gave, stop) ih = absurd (more (rest-empty before rest stop))
         go (Failed failure) e (gave, stop) ih = absurd (more (rest-empty before rest stop))
 
@@ -376,7 +367,7 @@ module _ (h : Heard) (mode : ControlMode) (timeout : Duration) where
       look-ends p l (k, on) place done =
           let e : switch-step mode timeout (k .entry) p (look .answer) ≡ Done = ap (λ (e : Entry). switch-step mode timeout e p (look .answer)) (k .sees place ∙ finds) ∙ done in
           let ended = subst (λ (x : SwitchNext). Onward h mode timeout (λ q. Runs q (with-reading (k .heard) (look .answer) .last) later) x look later) e on in
-          end-of look later Result.Done (ended .0)
+          end-of h mode timeout look later Result.Done (ended .0)
 
       sent-done : (p : Switch) (l : Instant) → Runs p l (look ∷ later) → mode-ask p ≡ some (Sending o) → look .answer ≡ Answer.Sent → result-of (look ∷ later) ≡ some Result.Done
       sent-done p l ran at sent =
@@ -398,8 +389,8 @@ module _ (h : Heard) (mode : ControlMode) (timeout : Duration) where
             go : (x : SwitchNext) → Onward h mode timeout (λ q. Runs q (with-reading (k .heard) (u .answer) .last) (us ++ (look ∷ later))) x u (us ++ (look ∷ later)) → Stays-quiet mode timeout (k .entry) (u .answer) o x
                 → ((q : Switch) → Runs q (with-reading (k .heard) (u .answer) .last) (us ++ (look ∷ later)) → Quiet o q → u .gave ≡ want-of q → result-of (us ++ (look ∷ later)) ≡ some Result.Done)
                 → result-of (u ∷ (us ++ (look ∷ later))) ≡ some Result.Done
-            go (Goes q) (gave, ran) still ih = want-on u (us ++ (look ∷ later)) q gave ∙ ih q ran still gave
-            go Done (gave, stop) still ih = end-of u (us ++ (look ∷ later)) Result.Done gave
+            go (Goes q) (gave, ran) still ih = want-on h mode timeout u (us ++ (look ∷ later)) q gave ∙ ih q ran still gave
+            go Done (gave, stop) still ih = end-of h mode timeout u (us ++ (look ∷ later)) Result.Done gave
             go (Failed failure) (gave, stop) still ih = absurd (not-empty us look later stop)
 
         waited-done : (u : Turn) (us : List Turn) (p : Switch) (l : Instant) → Runs p l (u ∷ (us ++ (look ∷ later))) → mode-ask p ≡ some (Sending o) → count sending (gaves (u ∷ us)) ≡ 0 → result-of (u ∷ (us ++ (look ∷ later))) ≡ some Result.Done
@@ -409,9 +400,9 @@ module _ (h : Heard) (mode : ControlMode) (timeout : Duration) where
           where
             go : (x : SwitchNext) → Onward h mode timeout (λ q. Runs q (with-reading (k .heard) (u .answer) .last) (us ++ (look ∷ later))) x u (us ++ (look ∷ later)) → Stays-quiet mode timeout (k .entry) (u .answer) o x → result-of (u ∷ (us ++ (look ∷ later))) ≡ some Result.Done
             go (Goes q) (gave, ran) still =
-                want-on u (us ++ (look ∷ later)) q gave
+                want-on h mode timeout u (us ++ (look ∷ later)) q gave
                 ∙ quiet-done us q (with-reading (k .heard) (u .answer) .last) ran still (sym (ap sends-in gave) ∙ first-zero (sends-in (u .gave)) _ none-sent) (rest-zero (sends-in (u .gave)) _ none-sent)
-            go Done (gave, stop) still = end-of u (us ++ (look ∷ later)) Result.Done gave
+            go Done (gave, stop) still = end-of h mode timeout u (us ++ (look ∷ later)) Result.Done gave
             go (Failed failure) (gave, stop) still = absurd (not-empty us look later stop)
 
     pub found-done : (ts : List Turn) (p : Switch) (l : Instant) (r : Option Instant) → Runs p l ts → Opened r p → Succeeds r (want-of p) ts → result-of ts ≡ some Result.Done

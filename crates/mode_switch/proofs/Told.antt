@@ -91,9 +91,8 @@ or-true : (b : Bool) → (b || true) ≡ true
 or-true true = refl
 or-true false = refl
 
-or-false : (b : Bool) → (b || false) ≡ b
-or-false true = refl
-or-false false = refl
+left-false : (a b : Bool) → a ≡ false → (a && b) ≡ false
+left-false a b e = ap (λ (x : Bool). x && b) e
 
 unequal : (a b : ℕ) → (a ≡ b → ⊥) → eqb a b ≡ false
 unequal a b apart = go (eqb a b) refl
@@ -184,14 +183,14 @@ module _ (h : Heard) where
   unfolding on-7ff wants-send reads-mode
   reads-own mode Clock o = refl
   reads-own mode (Send (ReadRegister rid)) (inl e) =
-      subst (λ (r : ℕ). (eqb (register-read-data motor r) (register-read-data motor 10) && (not (shared motor) || eqb r 10)) ≡ eqb r 10) (sym e)
+      subst (λ (r : ℕ). mode-read motor (gives (Send (ReadRegister r))) ≡ wants-send reads-mode (some (Send (ReadRegister r)))) (sym e)
       (λ i. eq-eqb (register-read-data motor 10) (register-read-data motor 10) refl i && or-true (not (shared motor)) i)
   reads-own mode (Send (ReadRegister rid)) (inr e) =
-      subst (λ (r : ℕ). (eqb (register-read-data motor r) (register-read-data motor 10) && (not (shared motor) || eqb r 10)) ≡ eqb r 10) (sym e)
-      (ap (λ (b : Bool). b && (not (shared motor) || false)) (read-80 motor))
+      subst (λ (r : ℕ). mode-read motor (gives (Send (ReadRegister r))) ≡ wants-send reads-mode (some (Send (ReadRegister r)))) (sym e)
+      (left-false (eqb (register-read-data motor 80) (register-read-data motor 10)) _ (read-80 motor))
   reads-own mode (Send (WriteRegister rid bits)) o =
-      (λ i. eqb (register-write-data motor (o .0 i) (o .1 i)) (register-read-data motor 10) && (not (shared motor) || false))
-      ∙ ap (λ (b : Bool). b && (not (shared motor) || false)) (write-no-read motor mode)
+      left-false (eqb (register-write-data motor rid bits) (register-read-data motor 10)) _
+      ((λ i. eqb (register-write-data motor (o .0 i) (o .1 i)) (register-read-data motor 10)) ∙ write-no-read motor mode)
   reads-own mode (Send RequestFeedback) o = absurd o
   reads-own mode (Send Disable) o = absurd o
   reads-own mode (Send StoreParams) o = absurd o
@@ -201,7 +200,7 @@ module _ (h : Heard) where
   writes-own : (mode : ControlMode) (w : Want) → Own mode w → mode-write motor (gives w) ≡ wants-send writes-mode (some w)
   unfolding on-7ff wants-send writes-mode
   writes-own mode Clock o = refl
-  writes-own mode (Send (ReadRegister rid)) o = ap (λ (b : Bool). b && (not (shared motor) || false)) (read-no-write motor rid)
+  writes-own mode (Send (ReadRegister rid)) o = left-false (write-frame motor (register-read-data motor rid)) _ (read-no-write motor rid)
   writes-own mode (Send (WriteRegister rid bits)) o =
       (λ i. write-frame motor (register-write-data motor (o .0 i) (o .1 i)) && (not (shared motor) || eqb (o .0 i) 10))
       ∙ (λ i. a-write motor mode i && or-true (not (shared motor)) i)

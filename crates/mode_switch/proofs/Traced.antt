@@ -37,7 +37,7 @@ none≢some {A} e = subst is-none e tt
     is-none (some x) = ⊥
 
 -- a want is no result
-pub no-result : (h : Heard) (w : Want) (later : Option RunResult) → result-in (wanted h w) later ≡ later
+no-result : (h : Heard) (w : Want) (later : Option RunResult) → result-in (wanted h w) later ≡ later
 unfolding result-in
 no-result h Clock later = refl
 no-result h (Send message) later = refl
@@ -49,6 +49,15 @@ module _ (h : Heard) (mode : ControlMode) (timeout : Duration) where
 
   abbrev want-of : Switch → Gave
   want-of p = gave-want h mode timeout p
+
+  -- a turn that goes on has no result, and one that ends has that one
+  pub want-on : (t : Turn) (ts : List Turn) (q : Switch) → t .gave ≡ want-of q → result-of (t ∷ ts) ≡ result-of ts
+  unfolding result-of
+  want-on t ts q gave = ap (λ (g : Gave). result-in (g .told) (result-of ts)) gave ∙ no-result h (switch-want mode q) (result-of ts)
+
+  pub end-of : (t : Turn) (ts : List Turn) (r : RunResult) → t .gave ≡ gave-result h mode timeout r → result-of (t ∷ ts) ≡ some r
+  unfolding result-of result-in
+  end-of t ts r gave = ap (λ (g : Gave). result-in (g .told) (result-of ts)) gave
 
   pub record Traced (p : Switch) (l : Instant) (ts : List Turn) : Type 0 where
     pub gs : List Given
@@ -93,7 +102,7 @@ module _ (h : Heard) (mode : ControlMode) (timeout : Duration) where
             ∙ sym (ap (λ (x : SwitchNext). w (switch-want mode p) + Trace.total w (wants-from running (rest .gs) (stepped x))) e);
         ended = λ done.
             let r = rest .ended (sym (ap (λ (x : SwitchNext). after running (rest .gs) (stepped x)) e) ∙ done) in
-            (r .0, ap (λ (g : Gave). result-in (g .told) (result-of ts)) gave ∙ no-result h (switch-want mode q) (result-of ts) ∙ r .1);
+            (r .0, want-on t ts q gave ∙ r .1);
         moves = λ k′ b pending m.
             let on = fine-on k′ b pending m in
             let k″ = known-after moving (switch-want mode p) (t .answer) k′ in (
@@ -112,7 +121,7 @@ module _ (h : Heard) (mode : ControlMode) (timeout : Duration) where
         counts = λ f w same never.
             (λ i. same p i + (ap (λ (ts : List Turn). count f (t .gave ∷ gaves ts)) stop ∙ ap (λ (g : Gave). once (f g) + 0) gave ∙ ap (λ (b : Bool). once b + 0) (never r)) i)
             ∙ sym (ap (λ (x : Option Machine). w (switch-want mode p) + Trace.total w (wants-from running [] x)) e);
-        ended = λ done. (r, ap (λ (g : Gave). result-in (g .told) (result-of ts)) gave);
+        ended = λ done. (r, end-of t ts r gave);
         moves = λ k′ b pending m. (fine-on k′ b pending m .is-fine, tt);
       }
 
