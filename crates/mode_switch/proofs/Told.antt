@@ -180,7 +180,7 @@ module _ (h : Heard) where
   motor = h .«motor_id»
 
   reads-own : (mode : ControlMode) (w : Want) → Own mode w → mode-read motor (gives w) ≡ wants-send reads-mode (some w)
-  unfolding on-7ff wants-send reads-mode
+  unfolding on-7ff wants-send reads-mode any
   reads-own mode Clock o = refl
   reads-own mode (Send (ReadRegister rid)) (inl e) =
       subst (λ (r : ℕ). mode-read motor (gives (Send (ReadRegister r))) ≡ wants-send reads-mode (some (Send (ReadRegister r)))) (sym e)
