@@ -1,18 +1,15 @@
 #!/bin/sh
 # Makes the list that the gate replays, crates/drive/stdin and stdout: the scripts here and random lines, with the original's answers.
-# Lines of the call that drive does not answer yet are left out of the random ones.
 set -eu
 cd "$(dirname "$0")"
 cargo build --release --offline --quiet
 oracle=target/release/oracle
 list=../crates/drive
 part=target/part.script
-unbuilt=frame-lent
 : > "$list/stdin"
 add() { # SEED LINES KINDS
-    "$oracle" random --seed "$1" --lines "$2" --kinds "$3" --without "$unbuilt" --script "$part" --answers /dev/null
-    # Those before the part's own first session are still there; the list may have one by then.
-    LC_ALL=C grep -a -v -E -e "^($(echo "$unbuilt" | tr , '|'))( |\$)" "$part" >> "$list/stdin"
+    "$oracle" random --seed "$1" --lines "$2" --kinds "$3" --script "$part" --answers /dev/null
+    cat "$part" >> "$list/stdin"
 }
 add 1 2500 frames-out
 add 2 1200 frames-in

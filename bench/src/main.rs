@@ -61,6 +61,7 @@ fn take(
     random: &mut Random,
     name: &'static str,
     make: fn(&mut Random) -> Frame,
+    ours: fn(&[u8]) -> u64,
     n: usize,
 ) -> Result<Row, String> {
     let input = inputs::frames(random, make, inputs::TAKEN);
@@ -68,7 +69,7 @@ fn take(
         name,
         input: &input,
         width: 8,
-        ours: ours::take,
+        ours,
         original: taking::take,
     };
     work.measured(n)
@@ -136,9 +137,12 @@ fn rows(n: usize) -> Result<Vec<Row>, String> {
         matching(r, "match, tolerance 1", 1.0, n)?,
         matching(r, "match, tolerance 20", 20.0, n)?,
         suggest(r, "suggest three", n)?,
-        take(r, "take feedback frames, by value", inputs::feedback, n)?,
-        take(r, "take replies, by value", inputs::reply, n)?,
-        take(r, "take, a third of each class, by value", inputs::mixed, n)?,
+        take(r, "take feedback frames, lent", inputs::feedback, ours::take_lent, n)?,
+        take(r, "take replies, lent", inputs::reply, ours::take_lent, n)?,
+        take(r, "take, a third of each class, lent", inputs::mixed, ours::take_lent, n)?,
+        take(r, "take feedback frames, by value", inputs::feedback, ours::take, n)?,
+        take(r, "take replies, by value", inputs::reply, ours::take, n)?,
+        take(r, "take, a third of each class, by value", inputs::mixed, ours::take, n)?,
         run(r, "a register read", ours::reads, running::reads, n)?,
         run(r, "a confirmed write", ours::writes, running::writes, n)?,
     ])

@@ -1,5 +1,5 @@
-//! The proved loops of crates bench_loops, model_loops, session_loops and run_loops. Each takes a slice
-//! as pointer and length.
+//! The proved loops of crates bench_loops, model_loops, session_loops, lent_loops and run_loops. Each
+//! takes a slice as pointer and length.
 
 #[link(name = "bench_loops", kind = "static")]
 extern "C" {
@@ -17,6 +17,11 @@ extern "C" {
 #[link(name = "session_loops", kind = "static")]
 extern "C" {
     fn session_loops_frames(frames: *const u8, len: usize) -> u64;
+}
+
+#[link(name = "lent_loops", kind = "static")]
+extern "C" {
+    fn lent_loops_frames(frames: *const u8, len: usize) -> u64;
 }
 
 #[link(name = "run_loops", kind = "static")]
@@ -54,6 +59,11 @@ pub fn suggest(queries: &[f32]) -> u64 {
 pub fn take(frames: &[u8]) -> u64 {
     // SAFETY: as above.
     unsafe { session_loops_frames(frames.as_ptr(), frames.len()) }
+}
+
+pub fn take_lent(frames: &[u8]) -> u64 {
+    // SAFETY: as above.
+    unsafe { lent_loops_frames(frames.as_ptr(), frames.len()) }
 }
 
 pub fn reads(values: &[u32]) -> u64 {

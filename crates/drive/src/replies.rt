@@ -7,7 +7,6 @@ use text::put;
 
 pub(crate) enum Reply {
     NoSession,
-    NotBuilt,
     Refused(u8),
     Started,
     Taken,
@@ -25,7 +24,6 @@ pub(crate) fn put_line(reply: Reply, output: &mut [u8], to: usize) -> usize {
 fn put_reply(reply: Reply, output: &mut [u8], to: usize) -> usize {
     match reply {
         Reply::NoSession => put(output, to, b"no session"),
-        Reply::NotBuilt => put(output, to, b"not built"),
         Reply::Refused(number) => put_refused(number, output, to),
         Reply::Started => put(output, to, b"started"),
         Reply::Taken => put(output, to, b"taken"),

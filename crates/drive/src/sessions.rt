@@ -12,7 +12,6 @@ use motor_core::time::Instant;
 use runs::Turn;
 use script::Call;
 use script::calls;
-use session::Heard;
 use session::Session;
 use session::accepts_frame;
 use session::patch_latest;
@@ -21,6 +20,7 @@ use session::start::from_limits;
 use session::start::from_model;
 use session::start::no_session;
 use taking::Outcome;
+use taking::Taking;
 use taking::process_feedback_frame;
 use words::second_word;
 
@@ -64,9 +64,10 @@ fn answer_in(session: Session, call: Call) -> Step {
     match code {
         calls::GET_U32..=calls::MODE => turned(running::started(session, call)),
         calls::CLOCK..=calls::SLEPT => turned(running::answered(session, call)),
-        calls::FRAME => take(session, call),
+        calls::FRAME => taken(process_feedback_frame(session, frame_in(call), reading_in(call))),
+        calls::FRAME_LENT => taken(lent::take_frame(session, frame_in(call), reading_in(call))),
         calls::PATCH => patch(session, call),
-        _ => look(session, call),
+        _ => accepts(session, call),
     }
 }
 
@@ -127,19 +128,23 @@ fn frame_of(id: u64, data: u64, dlc: u64, flag: u64) -> CanFrame {
     }
 }
 
-fn take(session: Session, call: Call) -> Step {
+// The frame and the reading of a line that has both.
+fn frame_in(call: Call) -> CanFrame {
     let a = call.args;
-    let frame = frame_of(a[1], a[2], a[3], a[4]);
-    let taking = process_feedback_frame(session, frame, Instant(a[0]));
-    let outcome = taking.outcome;
-    let after = taking.session;
-    in_use(after, taken(outcome))
+    frame_of(a[1], a[2], a[3], a[4])
 }
 
-fn taken(outcome: Outcome) -> Reply {
+fn reading_in(call: Call) -> Instant {
+    let a = call.args;
+    Instant(a[0])
+}
+
+fn taken(taking: Taking) -> Step {
+    let outcome = taking.outcome;
+    let session = taking.session;
     match outcome {
-        Outcome::Taken => Reply::Taken,
-        Outcome::Refused(number) => Reply::Refused(number),
+        Outcome::Taken => in_use(session, Reply::Taken),
+        Outcome::Refused(number) => in_use(session, Reply::Refused(number)),
     }
 }
 
@@ -150,24 +155,9 @@ fn patch(session: Session, call: Call) -> Step {
     in_use(after, Reply::Patched(done.patched))
 }
 
-// The call that leaves the session as it is, and the one whose engine is to come.
-fn look(session: Session, call: Call) -> Step {
-    let heard = session.heard;
-    in_use(session, seen(heard, call))
-}
-
-fn seen(heard: Heard, call: Call) -> Reply {
-    if call.code == calls::ACCEPTS {
-        return accepts(heard, call);
-    }
-    not_built()
-}
-
-fn accepts(heard: Heard, call: Call) -> Reply {
+fn accepts(session: Session, call: Call) -> Step {
     let a = call.args;
-    Reply::Accepts(accepts_frame(heard, frame_of(a[0], a[1], a[2], a[3])))
-}
-
-fn not_built() -> Reply {
-    Reply::NotBuilt
+    let heard = session.heard;
+    let accepted = accepts_frame(heard, frame_of(a[0], a[1], a[2], a[3]));
+    in_use(session, Reply::Accepts(accepted))
 }

@@ -3,7 +3,8 @@ use Prim.Native.Nat.{ℕ, zero, suc, _*_, _/_}
 use mathlib.Core.Bool.{false, cond}
 use mathlib.Core.List.{List}
 use lib.Ieee.{binary32, toBits, div}
-use lib.ListN.{length}
+use lib.Dec.{ltb}
+use lib.ListN.{length, replicate}
 use Rattle.motor_core.specs.declared.bus.CanFrame.{CanFrame}
 use Rattle.float.specs.Arithmetic.{float}
 use Rattle.models.specs.declared.list.Maxima.{Maxima}
@@ -75,6 +76,10 @@ session-total s =
 -- the eight bytes from `at` on, under feedback id 0x11
 abbrev pub frame-at : List ℕ → ℕ → CanFrame
 frame-at bytes at = record { «arbitration_id» = 0x11; «data» = frame bytes at; dlc = 8; «is_extended» = false }
+
+-- the k-th of the whole frames; past the last, eight zeros
+abbrev pub frame-number : List ℕ → ℕ → CanFrame
+frame-number bytes k = cond (ltb k (length bytes / 8)) (frame-at bytes (k * 8)) (record { «arbitration_id» = 0x11; «data» = replicate 8 0; dlc = 8; «is_extended» = false })
 
 -- a session after n frames; a frame's reading is its place
 unfoldable pub after : Session → List ℕ → ℕ → Session

@@ -152,6 +152,22 @@ fn frame_at(frames: &[u8], at: usize) -> CanFrame
     }
 }
 
+// The k-th frame of eight bytes; past the last whole one, eight zeros.
+pub fn frame_number(frames: &[u8], k: usize) -> CanFrame
+    ensures { λ r. ⌜ r ≡ Spec.frame-number (now (frames .entry)) k ⌝ }
+{
+    if k < frames.len() / 8 {
+        frame_at(frames, k * 8)
+    } else {
+        CanFrame {
+            arbitration_id: 0x11,
+            data: [0; 8],
+            dlc: 8,
+            is_extended: false,
+        }
+    }
+}
+
 // A session after every whole frame; a frame's reading is its place.
 fn after_frames(frames: &[u8], start: Session) -> Session
     ensures { λ r. ⌜ r ≡ Spec.after-frames start (now (frames .entry)) ⌝ }

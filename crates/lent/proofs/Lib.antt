@@ -1,0 +1,3 @@
+pub mod ByParts
+pub mod Elements
+pub mod Lending
