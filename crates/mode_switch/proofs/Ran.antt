@@ -39,7 +39,7 @@ use Rattle.runs.specs.declared.Told.the-variants as Told
 use Rattle.runs.specs.declared.Turn.{Turn as Returning}
 use Rattle.runs.proofs.Effects.{entry, answer-cases, answer-taken}
 use Rattle.run_starts.proofs.Effects.{start-cases}
-use Rattle.mode_switch.specs.Claim.{Start, Call, start, answer, patch, Returned, told, begun, step, open-want, events, session-after, Gave, Turn, taken-in, reply-with, turn-in, turn-of, add-turn, turns}
+use Rattle.mode_switch.specs.Claim.{Start, Call, start, answer, frame-lent, patch, Returned, told, begun, step, open-want, events, session-after, Gave, Turn, taken-in, reply-with, turn-in, turn-of, add-turn, turns}
 use Rattle.mode_switch.proofs.Sessions.{starting, is-beginning, mode-entry, Sound, answer-sound, patch-sound, frame-sound, frame-entry}
 
 -- told by the motor id and the limits alone
@@ -187,4 +187,5 @@ module _ (h : Heard) (mode : ControlMode) (timeout : Duration) where
   ran (start b ∷ cs) s p o sound = start-ran cs (ran cs) s p o sound b
   ran (answer a ∷ cs) s p o sound = answer-ran cs (ran cs) s p o sound a
   ran (Call.frame f t ∷ cs) s p o sound = frame-ran cs (ran cs) s p o sound f t
+  ran (frame-lent f t ∷ cs) s p o sound = frame-ran cs (ran cs) s p o sound f t
   ran (patch status mos rotor ∷ cs) s p o sound = ran cs (patch-latest s status mos rotor .session) p o (patch-sound h s sound status mos rotor)

@@ -35,7 +35,7 @@ use Rattle.runs.proofs.Effects.{answer-keeps, answer-last, answer-refused}
 use Rattle.run_starts.specs.Start.{begin, get-start, write-start, fresh-state-start, store-start, mode-start, get-register-u32, get-register-f32, write-register-u32, write-register-f32, request-fresh-state, store-parameters, ensure-control-mode}
 use Rattle.run_starts.specs.declared.Start.{Start as Starting}
 use Rattle.run_starts.proofs.Effects.{start-keeps, start-refused}
-use Rattle.mode_switch.specs.Claim.{Start, get-u32, get-f32, write-u32, write-f32, fresh-state, store, switch, Call, start, answer, patch, Returned, told, patched, begun, step, events, session-after, mode-reply-by, mode-reply, replied, taken-in, reply-with, last-reply, Refusal}
+use Rattle.mode_switch.specs.Claim.{Start, get-u32, get-f32, write-u32, write-f32, fresh-state, store, switch, Call, start, answer, frame-lent, patch, Returned, told, patched, begun, step, events, session-after, mode-reply-by, mode-reply, replied, taken-in, reply-with, last-reply, Refusal}
 
 -- every start is a beginning
 abbrev pub starting : Start → Starting
@@ -135,6 +135,7 @@ unfolding step
 step-sound h s (start b) sound = start-sound h s sound b
 step-sound h s (answer a) sound = answer-sound h s sound a
 step-sound h s (Call.frame f t) sound = frame-sound h s sound f t
+step-sound h s (frame-lent f t) sound = frame-sound h s sound f t
 step-sound h s (patch status mos rotor) sound = patch-sound h s sound status mos rotor
 
 pub step-entry : (h : Heard) (s : Session) (c : Call) → Sound h s → mode-entry (step s c .session) ≡ reply-with (mode-entry s) c (step s c .returned)
@@ -142,6 +143,7 @@ unfolding step reply-with
 step-entry h s (start b) sound = start-entry h s sound b
 step-entry h s (answer a) sound = answer-entry h s sound a
 step-entry h s (Call.frame f t) sound = frame-entry h s sound f t
+step-entry h s (frame-lent f t) sound = frame-entry h s sound f t
 step-entry h s (patch status mos rotor) sound = refl
 
 pub list-sound : (h : Heard) (cs : List Call) (s : Session) → Sound h s → Sound h (session-after s cs)
@@ -179,6 +181,7 @@ refused-leaves s (start b) r =
     (λ n e. ap (λ (t : Turn). t .session) (is-beginning s b) ∙ start-refused s (starting b) n (sym (ap (λ (t : Turn). t .told) (is-beginning s b)) ∙ e))
 refused-leaves s (answer a) r = by-number (answer-run s a .told) r (answer-refused s a)
 refused-leaves s (Call.frame f t) r = frame-number (take-frame s f t .outcome) r (Taking.turned-back s f t)
+refused-leaves s (frame-lent f t) r = frame-number (take-frame s f t .outcome) r (Taking.turned-back s f t)
 refused-leaves s (patch status mos rotor) r = absurd (never r)
   where
     never : Refusal (patched (patch-latest s status mos rotor .patched)) → ⊥

@@ -67,11 +67,11 @@ pub data Start : Type 0 where
   store : Start
   switch : (mode : ℕ) → Duration → Start
 
--- a start, an answer, a frame taken by the entry that gets the session by value, a patch
+-- a start, an answer, a frame, by the entry that gets the session by value or by the one that it is lent to, a patch
 pub data Call : Type 0 where
   start : Start → Call
   answer : Answer → Call
-  frame : CanFrame → Instant → Call
+  frame frame-lent : CanFrame → Instant → Call
   patch : (status mos rotor : ℕ) → Call
 
 -- what a call returns besides the session
@@ -93,7 +93,7 @@ of-frame t = record { session = t .session; returned = Returned.frame (t .outcom
 abbrev pub of-patch : Patched → After
 of-patch p = record { session = p .session; returned = patched (p .patched) }
 
--- each call by the definition that its function is proved equal to
+-- each call by the definition that its function is proved equal to; where the session is lent, its last value is the next one
 unfoldable pub begun : Session → Start → Run-turn
 begun s (get-u32 rid timeout) = get-register-u32 s rid timeout
 begun s (get-f32 rid timeout) = get-register-f32 s rid timeout
@@ -107,6 +107,7 @@ unfoldable pub step : Session → Call → After
 step s (start b) = of-run (begun s b)
 step s (answer a) = of-run (answer-run s a)
 step s (Call.frame f reading) = of-frame (take-frame s f reading)
+step s (frame-lent f reading) = of-frame (take-frame s f reading)
 step s (patch status mos rotor) = of-patch (patch-latest s status mos rotor)
 
 -- what the run's definition wants
@@ -159,6 +160,7 @@ unfoldable pub reply-with : Entry → Call → Returned → Entry
 reply-with e (start b) returned = e
 reply-with e (answer a) returned = e
 reply-with e (Call.frame f reading) returned = taken-in e f reading returned
+reply-with e (frame-lent f reading) returned = taken-in e f reading returned
 reply-with e (patch status mos rotor) returned = e
 
 unfoldable pub last-reply : Entry → List Event → Entry
@@ -198,6 +200,7 @@ unfoldable pub add-turn : Entry → Call → Returned → Option Want → List T
 add-turn e (start b) returned w ts = ts
 add-turn e (answer a) returned w ts = turn-of a e w returned ts
 add-turn e (Call.frame f reading) returned w ts = ts
+add-turn e (frame-lent f reading) returned w ts = ts
 add-turn e (patch status mos rotor) returned w ts = ts
 
 -- its turns among the calls after its start; `e` is the last reply so far
