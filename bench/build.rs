@@ -12,6 +12,7 @@ fn main() {
         "session_loops",
         "lent_loops",
         "run_loops",
+        "mode_loops",
     ] {
         let archive = folder.join(format!("lib{library}.a"));
         println!("cargo:rerun-if-changed={}", archive.display());

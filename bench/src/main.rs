@@ -145,6 +145,7 @@ fn rows(n: usize) -> Result<Vec<Row>, String> {
         take(r, "take, a third of each class, by value", inputs::mixed, ours::take, n)?,
         run(r, "a register read", ours::reads, running::reads, n)?,
         run(r, "a confirmed write", ours::writes, running::writes, n)?,
+        run(r, "a mode switch", ours::switches, running::switches, n)?,
     ])
 }
 

@@ -1,5 +1,5 @@
-//! The proved loops of crates bench_loops, model_loops, session_loops, lent_loops and run_loops. Each
-//! takes a slice as pointer and length.
+//! The proved loops of crates bench_loops, model_loops, session_loops, lent_loops, run_loops and
+//! mode_loops. Each takes a slice as pointer and length, but for the switches, which take their number.
 
 #[link(name = "bench_loops", kind = "static")]
 extern "C" {
@@ -28,6 +28,11 @@ extern "C" {
 extern "C" {
     fn run_loops_reads(values: *const u32, len: usize) -> u64;
     fn run_loops_writes(values: *const u32, len: usize) -> u64;
+}
+
+#[link(name = "mode_loops", kind = "static")]
+extern "C" {
+    fn mode_loops_switches(count: u64) -> u64;
 }
 
 pub fn encode_mit(setpoints: &[f32]) -> u64 {
@@ -74,4 +79,9 @@ pub fn reads(values: &[u32]) -> u64 {
 pub fn writes(values: &[u32]) -> u64 {
     // SAFETY: as above.
     unsafe { run_loops_writes(values.as_ptr(), values.len()) }
+}
+
+pub fn switches(values: &[u32]) -> u64 {
+    // SAFETY: a number goes in and one comes out.
+    unsafe { mode_loops_switches(values.len() as u64) }
 }

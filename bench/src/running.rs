@@ -1,29 +1,76 @@
-//! The original's motor runs register reads and confirmed writes on a bus that answers each request at
-//! once, with a run's place as every reading of the clock. Nothing sleeps.
+//! The original's motor runs register reads, confirmed writes and mode switches on a bus that answers
+//! each frame at once. A read's or a write's readings are its place; of switches, what was slept so far.
 
 use crate::checksum::{mixed, motor_total};
 use motor_core::bus::{CanBus, CanFrame};
 use motor_core::device::MotorDevice;
 use motor_core::error::Result;
-use motor_vendor_damiao::motor::DamiaoMotor;
+use motor_vendor_damiao::motor::{ControlMode, DamiaoMotor};
 use std::ptr;
-use std::sync::atomic::{AtomicPtr, AtomicU64, Ordering::Relaxed};
+use std::sync::atomic::{AtomicPtr, AtomicU64, AtomicU8, Ordering::Relaxed};
 use std::sync::Arc;
 use std::time::Duration;
 
 const REPLY: u8 = 0x33;
 const ACK: u8 = 0x55;
 const READ_TIMEOUT: Duration = Duration::from_millis(100);
+const SWITCH_TIMEOUT: Duration = Duration::from_millis(400);
 
-/// A bus with one motor, which answers each frame that is sent with `answer`, before the send is over.
-struct PromptBus {
+/// What the motor on the bus says to a frame that is sent.
+trait Answers: Send + Sync {
+    fn to(&self, data: [u8; 8]) -> [u8; 8];
+}
+
+/// Always the same.
+#[derive(Default)]
+struct Prepared(AtomicU64);
+
+impl Answers for Prepared {
+    fn to(&self, _: [u8; 8]) -> [u8; 8] {
+        self.0.load(Relaxed).to_be_bytes()
+    }
+}
+
+/// The frame itself, a read with the motor's mode in d4; a write sets the mode.
+struct Echo(AtomicU8);
+
+impl Answers for Echo {
+    fn to(&self, mut data: [u8; 8]) -> [u8; 8] {
+        match data[2] {
+            REPLY => data[4] = self.0.load(Relaxed),
+            ACK => self.0.store(data[4], Relaxed),
+            _ => {}
+        }
+        data
+    }
+}
+
+/// A bus with one motor, which answers each frame that is sent before the send is over.
+struct PromptBus<A> {
     motor: AtomicPtr<DamiaoMotor>,
-    answer: AtomicU64,
-    /// Of the frames sent and the results of the runs.
+    answers: A,
+    /// Of the frames sent, the sleeps and the results of the runs.
     sum: AtomicU64,
 }
 
-impl PromptBus {
+impl<A: Answers + 'static> PromptBus<A> {
+    /// The bus, and motor 1 of model 4310 on it.
+    fn with_motor(answers: A) -> (Arc<Self>, Box<DamiaoMotor>) {
+        let bus = Arc::new(PromptBus {
+            motor: AtomicPtr::new(ptr::null_mut()),
+            answers,
+            sum: AtomicU64::new(0),
+        });
+        let motor = DamiaoMotor::new(1, 0x11, "4310", bus.clone()).expect("a model's name");
+        let mut motor = Box::new(motor);
+        bus.motor.store(&raw mut *motor, Relaxed);
+        (bus, motor)
+    }
+
+    fn total(&self, motor: &DamiaoMotor, last: u64) -> u64 {
+        mixed(&[self.sum.load(Relaxed), motor_total(motor, last)])
+    }
+
     fn add(&self, numbers: &[u64]) {
         let sum = numbers
             .iter()
@@ -32,7 +79,7 @@ impl PromptBus {
     }
 }
 
-impl CanBus for PromptBus {
+impl<A: Answers> CanBus for PromptBus<A> {
     fn send(&self, frame: CanFrame) -> Result<()> {
         let data = u64::from_be_bytes(frame.data);
         self.add(&[frame.arbitration_id.into(), data]);
@@ -40,7 +87,7 @@ impl CanBus for PromptBus {
         let motor = unsafe { &*self.motor.load(Relaxed) };
         motor.process_feedback_frame(CanFrame {
             arbitration_id: 0x11,
-            data: self.answer.load(Relaxed).to_be_bytes(),
+            data: self.answers.to(frame.data),
             dlc: 8,
             is_extended: false,
             is_rx: true,
@@ -74,22 +121,34 @@ pub fn writes(values: &[u32]) -> u64 {
     })
 }
 
+/// Switches between the modes 2 and 1, once for each value.
+#[inline(never)]
+pub fn switches(values: &[u32]) -> u64 {
+    let (bus, motor) = PromptBus::with_motor(Echo(AtomicU8::new(1)));
+    let mut now = 0;
+    for place in 0..values.len() {
+        let mode = [ControlMode::PosVel, ControlMode::Mit][place % 2];
+        let slept = script::at_reading(now, || {
+            let result = motor.ensure_control_mode(mode, SWITCH_TIMEOUT);
+            result.expect("prompt answers");
+            script::Instant::now().0
+        });
+        now = slept;
+        bus.add(&[1]);
+    }
+    bus.total(&motor, now)
+}
+
 fn runs(values: &[u32], marker: u8, run: impl Fn(&DamiaoMotor, u32) -> u64) -> u64 {
-    let bus = Arc::new(PromptBus {
-        motor: AtomicPtr::new(ptr::null_mut()),
-        answer: AtomicU64::new(0),
-        sum: AtomicU64::new(0),
-    });
-    let motor = DamiaoMotor::new(1, 0x11, "4310", bus.clone()).expect("a model's name");
-    bus.motor.store(&raw const motor as *mut _, Relaxed);
+    let (bus, motor) = PromptBus::with_motor(Prepared::default());
     let mut last = 0;
     for (place, value) in (0..).zip(values) {
         last = place;
         let [a, b, c, d] = value.to_le_bytes();
         let answer = u64::from_be_bytes([1, 0, marker, 10, a, b, c, d]);
-        bus.answer.store(answer, Relaxed);
+        bus.answers.0.store(answer, Relaxed);
         let result = script::at_reading(place, || run(&motor, *value));
         bus.add(&[result]);
     }
-    mixed(&[bus.sum.load(Relaxed), motor_total(&motor, last)])
+    bus.total(&motor, last)
 }

@@ -48,7 +48,7 @@ fn result_number(result: RunResult) -> u64
     }
 }
 
-fn told_total(sum: u64, told: Told) -> u64
+pub fn told_total(sum: u64, told: Told) -> u64
     ensures { λ r. ⌜ r ≡ Spec.told-total sum told ⌝ }
 {
     match told {

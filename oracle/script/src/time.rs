@@ -49,7 +49,7 @@ impl Add<Duration> for Instant {
     }
 }
 
-/// Runs `work` with every reading of the clock answered by `reading`.
+/// Runs `work` with every reading of the clock answered by `reading`, which sleeps move on.
 pub fn at_reading<T>(reading: u64, work: impl FnOnce() -> T) -> T {
     FRAME_READING.set(Some(reading));
     let result = work();
@@ -60,6 +60,10 @@ pub fn at_reading<T>(reading: u64, work: impl FnOnce() -> T) -> T {
 /// Sleeps as long as the script takes to answer.
 pub fn sleep(length: Duration) {
     let length = u64::try_from(length.as_nanos()).expect("a sleep of at most 2^64 ns");
+    if let Some(reading) = FRAME_READING.get() {
+        FRAME_READING.set(Some(reading.wrapping_add(length)));
+        return;
+    }
     match run::ask(Want::Sleep(length)) {
         Answer::Slept => {}
         other => unreachable!("{other:?} is no end of a sleep"),
