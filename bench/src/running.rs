@@ -49,7 +49,9 @@ impl Answers for Echo {
 struct PromptBus<A> {
     motor: AtomicPtr<DamiaoMotor>,
     answers: A,
-    /// Of the frames sent, the sleeps and the results of the runs.
+    /// The clock at the run's begin or at the last frame; what it moved on since then was slept.
+    reading: AtomicU64,
+    /// Of the sleeps, the frames sent and the results of the runs.
     sum: AtomicU64,
 }
 
@@ -59,6 +61,7 @@ impl<A: Answers + 'static> PromptBus<A> {
         let bus = Arc::new(PromptBus {
             motor: AtomicPtr::new(ptr::null_mut()),
             answers,
+            reading: AtomicU64::new(0),
             sum: AtomicU64::new(0),
         });
         let motor = DamiaoMotor::new(1, 0x11, "4310", bus.clone()).expect("a model's name");
@@ -79,9 +82,14 @@ impl<A: Answers + 'static> PromptBus<A> {
     }
 }
 
-impl<A: Answers> CanBus for PromptBus<A> {
+impl<A: Answers + 'static> CanBus for PromptBus<A> {
     fn send(&self, frame: CanFrame) -> Result<()> {
         let data = u64::from_be_bytes(frame.data);
+        let now = script::Instant::now().0;
+        let before = self.reading.swap(now, Relaxed);
+        if before < now {
+            self.add(&[now - before]);
+        }
         self.add(&[frame.arbitration_id.into(), data]);
         // SAFETY: what sends here is the motor itself, in one of its own methods.
         let motor = unsafe { &*self.motor.load(Relaxed) };
@@ -128,12 +136,12 @@ pub fn switches(values: &[u32]) -> u64 {
     let mut now = 0;
     for place in 0..values.len() {
         let mode = [ControlMode::PosVel, ControlMode::Mit][place % 2];
-        let slept = script::at_reading(now, || {
+        bus.reading.store(now, Relaxed);
+        now = script::at_reading(now, || {
             let result = motor.ensure_control_mode(mode, SWITCH_TIMEOUT);
             result.expect("prompt answers");
             script::Instant::now().0
         });
-        now = slept;
         bus.add(&[1]);
     }
     bus.total(&motor, now)
@@ -147,6 +155,7 @@ fn runs(values: &[u32], marker: u8, run: impl Fn(&DamiaoMotor, u32) -> u64) -> u
         let [a, b, c, d] = value.to_le_bytes();
         let answer = u64::from_be_bytes([1, 0, marker, 10, a, b, c, d]);
         bus.answers.0.store(answer, Relaxed);
+        bus.reading.store(place, Relaxed);
         let result = script::at_reading(place, || run(&motor, *value));
         bus.add(&[result]);
     }
