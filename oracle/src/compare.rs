@@ -1,24 +1,34 @@
 //! Runs another program on random scripts and compares its answers with the oracle's.
 
-use crate::lines::answer_lines;
-use crate::parser::{self, Line};
 use crate::random::{self, Chunk, Recipe};
-use std::io::{self, Read, Write};
-use std::process::{Command, Stdio};
-use std::sync::mpsc::sync_channel;
+use crate::shrink::shrunk;
+use crate::trial::Trial;
+use std::sync::mpsc::{sync_channel, SyncSender};
 use std::thread;
-use std::time::Instant;
+use std::time::{Duration, Instant};
+
+/// How long there is no word of progress.
+const SILENCE: Duration = Duration::from_secs(5);
+
+/// How many lines of a script that differs are shown.
+const SHOWN: usize = 30;
+
+/// How much is compared.
+pub enum Extent {
+    Lines(u64),
+    Time(Duration),
+}
 
 pub struct Comparison {
     /// A command for the shell, which gets the script on its standard input.
     pub drive: String,
     pub seed: u64,
-    pub lines: u64,
+    pub extent: Extent,
     pub recipe: Recipe,
     /// The options that name the recipe.
     pub named: String,
     pub chunk: u64,
-    /// Where the script of a chunk that differs is left.
+    /// Where a short script that differs is left.
     pub keep: Option<String>,
 }
 
@@ -30,113 +40,115 @@ struct Made {
 
 /// Compares chunk by chunk; the next chunk is made while the last one is run.
 pub fn compare(comparison: &Comparison) -> Result<(), String> {
-    let begun = Instant::now();
-    let (give, take) = sync_channel::<Made>(1);
+    let (give, take) = sync_channel(1);
     thread::scope(|scope| {
-        scope.spawn(move || {
-            let mut left = comparison.lines;
-            let mut seed = comparison.seed;
-            while left > 0 {
-                let lines = left.min(comparison.chunk.max(1));
-                let chunk = random::chunk(seed, lines, &comparison.recipe);
-                if give.send(Made { seed, lines, chunk }).is_err() {
-                    return;
-                }
-                left -= lines;
-                seed = random::mixed(seed);
-            }
-        });
-        let mut compared = 0;
+        scope.spawn(move || make(comparison, &give));
+        let mut progress = Progress::begun();
         for made in take {
-            one_chunk(comparison, &made)?;
-            compared += made.chunk.lines;
-            let rate = compared as f64 / begun.elapsed().as_secs_f64();
-            eprintln!("{compared} lines compared, {rate:.0} lines per second");
+            let lines = made.chunk.lines;
+            one_chunk(comparison, made)?;
+            progress.compared(lines);
         }
-        println!("{compared} lines compared, 0 differences");
+        println!("{}, 0 differences", progress.so_far());
         Ok(())
     })
 }
 
-fn one_chunk(comparison: &Comparison, made: &Made) -> Result<(), String> {
-    let (answers, ended) = answers_of(&comparison.drive, &made.chunk.script)?;
-    if answers == made.chunk.answers && ended.is_none() {
-        return Ok(());
-    }
-    if let Some(keep) = &comparison.keep {
-        std::fs::write(keep, &made.chunk.script).map_err(|error| format!("{keep}: {error}"))?;
-    }
-    let mut report = String::new();
-    if answers != made.chunk.answers {
-        report += &difference(&made.chunk, &answers);
-    }
-    if let Some(ended) = ended {
-        report += &format!("the drive ended with {ended}\n");
-    }
-    Err(format!(
-        "{report}the script again: random --seed {} --lines {} {}",
-        made.seed, made.lines, comparison.named
-    ))
-}
-
-/// What the drive writes for a script, and how it ended if not well.
-fn answers_of(drive: &str, script: &[u8]) -> Result<(Vec<u8>, Option<String>), String> {
-    let mut child = Command::new("sh")
-        .args(["-c", drive])
-        .stdin(Stdio::piped())
-        .stdout(Stdio::piped())
-        .spawn()
-        .map_err(|error| format!("{drive}: {error}"))?;
-    let mut input = child.stdin.take().expect("its standard input");
-    let mut output = child.stdout.take().expect("its standard output");
-    let mut answers = Vec::with_capacity(script.len());
-    thread::scope(|scope| {
-        // A drive that ends early shows in its answers.
-        scope.spawn(move || input.write_all(script).ok());
-        output.read_to_end(&mut answers)
-    })
-    .map_err(|error| format!("{drive}: {error}"))?;
-    let status = child.wait().map_err(|error| format!("{drive}: {error}"))?;
-    Ok((answers, (!status.success()).then(|| status.to_string())))
-}
-
-/// The first answer that differs, with its line.
-fn difference(chunk: &Chunk, answers: &[u8]) -> String {
-    let mut ours = chunk.answers.split(|byte| *byte == b'\n');
-    let mut theirs = answers.split(|byte| *byte == b'\n');
-    let mut number = 0;
-    let mut report = None;
-    let _ = answer_lines(chunk.script.as_slice(), io::sink(), |line, _| {
-        number += 1;
-        if report.is_some() || matches!(parser::parse(line), Line::PassedOver) {
+/// Makes chunks, until there are enough or nobody takes them.
+fn make(comparison: &Comparison, give: &SyncSender<Made>) {
+    let begun = Instant::now();
+    let chunk = comparison.chunk.max(1);
+    let mut seed = comparison.seed;
+    let mut made = 0;
+    loop {
+        let lines = match comparison.extent {
+            Extent::Lines(lines) => chunk.min(lines - made),
+            Extent::Time(time) if begun.elapsed() < time => chunk,
+            Extent::Time(_) => 0,
+        };
+        if lines == 0 {
             return;
         }
-        let (ours, theirs) = (ours.next(), theirs.next());
-        if ours != theirs {
-            report = Some(format!(
-                "line {number}: {}\noracle: {}\ndrive:  {}\n",
-                shown(Some(line)),
-                shown(ours),
-                shown(theirs)
-            ));
+        let chunk = random::chunk(seed, lines, &comparison.recipe);
+        if give.send(Made { seed, lines, chunk }).is_err() {
+            return;
         }
-    });
-    report.unwrap_or_else(|| {
-        let rest: Vec<&[u8]> = theirs.collect();
-        format!(
-            "behind the last line: {}\n",
-            shown(Some(&rest.join(&b'\n')))
-        )
-    })
+        made += lines;
+        seed = random::mixed(seed);
+    }
 }
 
-/// Bytes as text, cut where they are many.
-fn shown(bytes: Option<&[u8]>) -> String {
-    match bytes {
-        None => "nothing".to_string(),
-        Some(bytes) => {
-            let cut = if bytes.len() > 300 { " .." } else { "" };
-            format!("{}{cut}", bytes[..bytes.len().min(300)].escape_ascii())
+fn one_chunk(comparison: &Comparison, made: Made) -> Result<(), String> {
+    let trial = Trial::of(&comparison.drive, made.chunk.script, made.chunk.answers)?;
+    if !trial.differs() {
+        return Ok(());
+    }
+    eprintln!(
+        "a difference in random --seed {} --lines {} {}",
+        made.seed, made.lines, comparison.named
+    );
+    let short = shortened(&comparison.drive, trial)?;
+    let kept = match &comparison.keep {
+        None => String::new(),
+        Some(keep) => match std::fs::write(keep, &short.script) {
+            Ok(()) => format!("the script is in {keep}"),
+            Err(error) => format!("{keep}: {error}"),
+        },
+    };
+    Err(format!("{}{kept}", short.report(SHOWN)))
+}
+
+/// A short script that differs, made from the one of this trial.
+fn shortened(drive: &str, trial: Trial) -> Result<Trial, String> {
+    let mut trials = 0;
+    let mut anew = |script: &[u8]| {
+        trials += 1;
+        Trial::anew(drive, script.to_vec())
+    };
+    // What comes behind the first difference is needed where the drive's end or too many answers are the difference.
+    for script in [trial.up_to_difference(), &trial.script] {
+        if anew(script)?.differs() {
+            let short = shrunk(script.to_vec(), |script| Ok(anew(script)?.differs()))?;
+            let short = anew(&short)?;
+            eprintln!("made short in {trials} trials");
+            return Ok(short);
         }
+    }
+    eprintln!("the drive answers otherwise when it is run again");
+    Ok(trial)
+}
+
+/// Lines and time so far.
+struct Progress {
+    begun: Instant,
+    said: Instant,
+    lines: u64,
+}
+
+impl Progress {
+    fn begun() -> Self {
+        let now = Instant::now();
+        Progress {
+            begun: now,
+            said: now,
+            lines: 0,
+        }
+    }
+
+    fn compared(&mut self, lines: u64) {
+        self.lines += lines;
+        if self.said.elapsed() >= SILENCE {
+            self.said = Instant::now();
+            eprintln!("{}", self.so_far());
+        }
+    }
+
+    fn so_far(&self) -> String {
+        let seconds = self.begun.elapsed().as_secs_f64();
+        let rate = self.lines as f64 / seconds;
+        format!(
+            "{} lines compared in {seconds:.0} s, {rate:.0} lines per second",
+            self.lines
+        )
     }
 }

@@ -9,20 +9,23 @@ mod parser;
 mod random;
 mod refusals;
 mod session;
+mod shrink;
 mod stateless;
 #[cfg(test)]
 mod tests;
+mod trial;
 
-use compare::Comparison;
+use compare::{Comparison, Extent};
 use oracle::Oracle;
 use random::Recipe;
 use std::collections::HashMap;
 use std::io;
 use std::process::ExitCode;
+use std::time::Duration;
 
 const USAGE: &str = "usage: oracle run < SCRIPT > ANSWERS
        oracle random --seed S --lines N --kinds LIST [--without LIST] --script FILE --answers FILE
-       oracle compare --drive CMD --seed S --lines N --kinds LIST [--without LIST] [--chunk N] [--keep FILE]
+       oracle compare --drive CMD --seed S --lines N|--seconds N|--minutes N --kinds LIST [--without LIST] [--chunk N] [--keep FILE]
 kinds: all, stateless, frames-out, frames-in, models, tables, sessions, runs, mode, bad";
 
 fn main() -> ExitCode {
@@ -41,7 +44,7 @@ fn main() -> ExitCode {
         "compare" => Options::read(
             rest,
             &[
-                "drive", "seed", "lines", "kinds", "without", "chunk", "keep",
+                "drive", "seed", "lines", "seconds", "minutes", "kinds", "without", "chunk", "keep",
             ],
         )
         .and_then(|options| compare_with(&options)),
@@ -112,6 +115,21 @@ fn random_script(options: &Options) -> Result<(), String> {
     Ok(())
 }
 
+/// A number of lines or a time, and not both.
+fn extent(options: &Options) -> Result<Extent, String> {
+    let given = ["lines", "seconds", "minutes"].map(|name| options.0.contains_key(name));
+    match given {
+        [false, true, false] => Ok(Extent::Time(Duration::from_secs(
+            options.number("seconds")?,
+        ))),
+        [false, false, true] => Ok(Extent::Time(Duration::from_secs(
+            options.number("minutes")?.saturating_mul(60),
+        ))),
+        [_, false, false] => Ok(Extent::Lines(options.number("lines")?)),
+        _ => Err(USAGE.to_string()),
+    }
+}
+
 fn compare_with(options: &Options) -> Result<(), String> {
     let mut named = format!("--kinds {}", options.text("kinds")?);
     if let Some(without) = options.0.get("without") {
@@ -120,7 +138,7 @@ fn compare_with(options: &Options) -> Result<(), String> {
     compare::compare(&Comparison {
         drive: options.text("drive")?.to_string(),
         seed: options.number("seed")?,
-        lines: options.number("lines")?,
+        extent: extent(options)?,
         recipe: recipe(options)?,
         named,
         chunk: match options.0.contains_key("chunk") {
