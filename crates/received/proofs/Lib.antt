@@ -1,2 +1,3 @@
 pub mod Classes
+pub mod KnownBits
 pub mod OfRegister

@@ -1,8 +1,8 @@
 // What a received frame says: its class, the feedback in it, or a register and its value.
 ghost use mathlib.Core.Path.{_≡_};
 ghost use Prim.Native.Nat.{_+_, _*_, _^_, _<_};
-ghost use mathlib.Core.Bool.{true, _&&_, _||_};
-ghost use lib.Dec.{leb, eqb};
+ghost use mathlib.Core.Bool.{true, cond, _&&_, _||_};
+ghost use lib.Dec.{leb, ltb, eqb};
 ghost use Rattle.registers.specs.Registers.{known};
 ghost use Rattle.float.specs.Arithmetic.{float};
 ghost use Rattle.frame.specs.Codes.{uint-to-float, bits-in};
@@ -71,6 +71,27 @@ fn marks_register(d1: u8, d2: u8) -> bool
     d1 <= 0x0f && ((d2 == 0x33) | (d2 == 0x55))
 }
 
+// The registers that are known, a bit each, 64 to a word: those below 64, those from 64 to 127, and none beyond.
+fn known_word(rid: u8) -> u64
+    ensures { λ r. ⌜ r ≡ cond (ltb rid 64) 0xf9fc_001f_ffff_ffff (cond (ltb rid 128) 0x3_0003 0) ⌝ }
+{
+    if rid < 64 {
+        0xf9fc_001f_ffff_ffff
+    } else if rid < 128 {
+        0x3_0003
+    } else {
+        0
+    }
+}
+
+// As registers::is_known, which reads a table: a table is written to the stack at each read.
+fn names_register(rid: u8) -> bool
+    ensures { λ r. ⌜ r ≡ known rid ⌝ }
+{
+    let word = known_word(rid);
+    (word >> (rid % 64)) % 2 == 1
+}
+
 pub fn frame_class(data: [u8; 8]) -> FrameClass
     ensures { λ r. ⌜ r ≡ Spec.class-of «data» ⌝ }
 {
@@ -78,7 +99,7 @@ pub fn frame_class(data: [u8; 8]) -> FrameClass
     if !marks_register(data[1], marker) {
         return FrameClass::Feedback;
     }
-    if !registers::is_known(data[3]) {
+    if !names_register(data[3]) {
         return FrameClass::Feedback;
     }
     if marker == 0x33 {

@@ -19,26 +19,26 @@ marks-register-requires c κs = search needs
 returns : tie.Need-returns
 returns c = unmarked _ _ _ (sym (c .before .marks-register .ensures) ∙ not-true _ (c .if1 .taken))
 
-array-read-is-known : tie.Need-array-read-is-known
-array-read-is-known c = search needs
+array-read-names-register : tie.Need-array-read-names-register
+array-read-names-register c = search needs
 
-is-known-requires : tie.Need-is-known-requires
-is-known-requires c κs = search needs
+names-register-requires : tie.Need-names-register-requires
+names-register-requires c κs = search needs
 
 returns-2 : tie.Need-returns-2
-returns-2 c = unlisted _ _ _ (sym (c .before .is-known .ensures) ∙ not-true _ (c .if2 .taken))
+returns-2 c = unlisted _ _ _ (sym (c .before .names-register .ensures) ∙ not-true _ (c .if2 .taken))
 
 returns-3 : tie.Need-returns-3
 returns-3 c =
     let k = c .before .before in
     let m = k .before in
-    marked _ _ _ true (sym (m .before .marks-register .ensures) ∙ not-false _ (m .if1 .left)) (sym (k .is-known .ensures) ∙ not-false _ (c .before .if2 .left)) (eq-eqb _ _ (c .if3 .taken))
+    marked _ _ _ true (sym (m .before .marks-register .ensures) ∙ not-false _ (m .if1 .left)) (sym (k .names-register .ensures) ∙ not-false _ (c .before .if2 .left)) (eq-eqb _ _ (c .if3 .taken))
 
 returns-4 : tie.Need-returns-4
 returns-4 c =
     let k = c .before .before in
     let m = k .before in
-    marked _ _ _ false (sym (m .before .marks-register .ensures) ∙ not-false _ (m .if1 .left)) (sym (k .is-known .ensures) ∙ not-false _ (c .before .if2 .left)) (ne-eqb _ _ (c .if3 .left))
+    marked _ _ _ false (sym (m .before .marks-register .ensures) ∙ not-false _ (m .if1 .left)) (sym (k .names-register .ensures) ∙ not-false _ (c .before .if2 .left)) (ne-eqb _ _ (c .if3 .left))
 
 pub frame-class-spec : {M : Type 1} → statement M
 frame-class-spec =
@@ -48,8 +48,8 @@ frame-class-spec =
     array-read-marks-register
     marks-register-requires
     returns
-    array-read-is-known
-    is-known-requires
+    array-read-names-register
+    names-register-requires
     returns-2
     returns-3
     returns-4)
