@@ -132,7 +132,7 @@ fn extent(options: &Options) -> Result<Extent, String> {
 
 fn compare_with(options: &Options) -> Result<(), String> {
     let mut named = format!("--kinds {}", options.text("kinds")?);
-    if let Some(without) = options.0.get("without") {
+    if let Some(without) = options.0.get("without").filter(|calls| !calls.is_empty()) {
         named += &format!(" --without {without}");
     }
     compare::compare(&Comparison {
