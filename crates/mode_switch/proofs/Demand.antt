@@ -13,8 +13,8 @@ use Rattle.control_mode.specs.Mode.{mode-number}
 use Rattle.control_mode.specs.declared.ControlMode.{ControlMode}
 use Rattle.want.specs.declared.Want.{Want}
 use Rattle.want.specs.declared.Want.the-variants.{Clock}
-use Rattle.ensure_mode.specs.Switch.{switch-want}
-use Rattle.ensure_mode.specs.declared.Switch.the-variants.{Starting}
+use Rattle.switch_stage.specs.Stage.{switch-want}
+use Rattle.switch_stage.specs.declared.Switch.the-variants.{Starting}
 use Rattle.machine.specs.declared.Machine.{Machine}
 use Rattle.machine.specs.declared.RunResult.{RunResult}
 use Rattle.session.specs.declared.Heard.{Heard}
@@ -25,7 +25,8 @@ use Rattle.runs.specs.declared.Told.the-variants as Told
 use Rattle.runs.specs.declared.Turn.{Turn as Returning}
 use Rattle.machine.specs.Machine.{machine-want}
 use Rattle.runs.specs.Runs.{wanted}
-use Rattle.run_starts.specs.Start.{opened, with-opened, begin, mode-start, ensure-control-mode}
+use Rattle.start_machine.specs.Start.{mode-start}
+use Rattle.run_starts.specs.Start.{opened, with-opened, begin, ensure-control-mode}
 use Rattle.run_starts.proofs.Effects.{start-cases}
 use Rattle.run_laws.specs.Clock.{unheard, Moved, Moving}
 use Rattle.run_laws.specs.Trace.{counted}

@@ -9,13 +9,15 @@ use Rattle.control_mode.specs.declared.ControlMode.{ControlMode}
 use Rattle.want.specs.declared.Answer.{Answer}
 use Rattle.want.specs.declared.Want.{Want}
 use Rattle.want.specs.declared.Want.the-variants.{Clock, Send, Sleep}
-use Rattle.ensure_mode.specs.Switch.{switch-want, switch-step}
-use Rattle.ensure_mode.specs.declared.Switch.{Switch}
-use Rattle.ensure_mode.specs.declared.SwitchNext.{SwitchNext}
-use Rattle.ensure_mode.specs.declared.SwitchNext.the-variants.{Goes, Done, Failed}
-use Rattle.machine.specs.Machine.{machine-want, machine-step}
-use Rattle.machine.specs.declared.Next.{Next}
-use Rattle.machine.specs.declared.Next.the-variants as Next
+use Rattle.switch_stage.specs.Stage.{switch-want}
+use Rattle.ensure_mode.specs.Switch.{switch-step}
+use Rattle.switch_stage.specs.declared.Switch.{Switch}
+use Rattle.switch_stage.specs.declared.SwitchNext.{SwitchNext}
+use Rattle.switch_stage.specs.declared.SwitchNext.the-variants.{Goes, Done, Failed}
+use Rattle.machine.specs.Machine.{machine-want}
+use Rattle.machine_step.specs.Step.{machine-step}
+use Rattle.machine_step.specs.declared.Next.{Next}
+use Rattle.machine_step.specs.declared.Next.the-variants as Next
 use Rattle.machine.specs.declared.RunResult.{RunResult}
 use Rattle.machine.specs.declared.RunResult.the-variants as Result
 use Rattle.session.specs.declared.Heard.{Heard}

@@ -38,19 +38,23 @@ use Rattle.confirmed_write.specs.declared.Write.the-variants as Write
 use Rattle.confirmed_write.specs.declared.WriteNext.{WriteNext}
 use Rattle.confirmed_write.specs.declared.WriteNext.the-variants as Written
 use Rattle.confirmed_write.specs.Write.{write-step}
-use Rattle.ensure_mode.specs.Switch.{mode-value, with-error, prepare, not-yet, mode-read, hold-read, hold-at, finish, written, held, cleared, mode-timed, hold-timed, settled, switch-want, switch-place, switch-step}
+use Rattle.switch_stage.specs.Stage.{mode-value, switch-want, switch-place}
+use Rattle.prepare_switch.specs.Prepare.{prepare, hold-read, cleared, hold-timed}
+use Rattle.finish_switch.specs.Finish.{hold-at, finish, written, held, settled}
+use Rattle.ensure_mode.specs.Switch.{with-error, not-yet, mode-read, mode-timed, switch-step}
 use Rattle.time_left.specs.TimeLeft.{mode-read-cap, hold-read-cap, capped-remaining, settle-time}
 use Rattle.time_left.specs.declared.TimeLeft.{TimeLeft}
 use Rattle.time_left.specs.declared.TimeLeft.the-variants as Left
-use Rattle.ensure_mode.specs.declared.HoldPosition.{HoldPosition}
-use Rattle.ensure_mode.specs.declared.HoldPosition.the-variants as Position
-use Rattle.ensure_mode.specs.declared.ModeRead.{ModeRead}
-use Rattle.ensure_mode.specs.declared.ModeRead.the-variants.{First, Verify}
-use Rattle.ensure_mode.specs.declared.Progress.{Progress}
-use Rattle.ensure_mode.specs.declared.Switch.{Switch}
-use Rattle.ensure_mode.specs.declared.Switch.the-variants.{Starting, Remaining, Reading, HoldRemaining, HoldReading, Clearing, Writing, Settling, Sleeping, Holding}
-use Rattle.ensure_mode.specs.declared.SwitchNext.{SwitchNext}
-use Rattle.ensure_mode.specs.declared.SwitchNext.the-variants.{Goes, Done, Failed}
+use Rattle.switch_stage.specs.declared.HoldPosition.{HoldPosition}
+use Rattle.switch_stage.specs.declared.HoldPosition.the-variants as Position
+use Rattle.switch_stage.specs.declared.ModeRead.{ModeRead}
+use Rattle.switch_stage.specs.declared.ModeRead.the-variants.{First, Verify}
+use Rattle.switch_stage.specs.declared.Progress.{Progress}
+use Rattle.switch_stage.specs.declared.Stage.the-variants.{Remaining, Reading, HoldRemaining, HoldReading, Clearing, Writing, Settling, Sleeping, Holding}
+use Rattle.switch_stage.specs.declared.Switch.{Switch}
+use Rattle.switch_stage.specs.declared.Switch.the-variants.{Starting, Begun}
+use Rattle.switch_stage.specs.declared.SwitchNext.{SwitchNext}
+use Rattle.switch_stage.specs.declared.SwitchNext.the-variants.{Goes, Done, Failed}
 use Rattle.run_laws.specs.Ends.{wait-opening, Found, Look, Since, GetSaw}
 use Rattle.run_laws.proofs.Ends.{get-saw}
 use Rattle.mode_switch.specs.Claim.{wants-send, reads-mode}
@@ -58,15 +62,15 @@ use Rattle.mode_switch.specs.Claim.{wants-send, reads-mode}
 -- the read of register 10 that a phase is in
 abbrev pub mode-ask : Switch → Option Ask
 mode-ask Starting = none
-mode-ask (Remaining which p) = none
-mode-ask (Reading which p l ask) = some ask
-mode-ask (HoldRemaining p) = none
-mode-ask (HoldReading p l ask) = none
-mode-ask (Clearing channel p) = none
-mode-ask (Writing n p write) = none
-mode-ask (Settling n p) = none
-mode-ask (Sleeping n p l) = none
-mode-ask (Holding n p) = none
+mode-ask (Begun p (Remaining which)) = none
+mode-ask (Begun p (Reading which l ask)) = some ask
+mode-ask (Begun p HoldRemaining) = none
+mode-ask (Begun p (HoldReading l ask)) = none
+mode-ask (Begun p (Clearing channel)) = none
+mode-ask (Begun p (Writing n write)) = none
+mode-ask (Begun p (Settling n)) = none
+mode-ask (Begun p (Sleeping n l)) = none
+mode-ask (Begun p (Holding n)) = none
 
 -- what it wants, and where it looks
 module _ (mode : ControlMode) where
@@ -76,15 +80,15 @@ module _ (mode : ControlMode) where
 
   about : (p : Switch) → About p (mode-ask p)
   about Starting = tt
-  about (Remaining which p) = tt
-  about (Reading which p l ask) = (refl, refl)
-  about (HoldRemaining p) = tt
-  about (HoldReading p l ask) = tt
-  about (Clearing channel p) = tt
-  about (Writing n p write) = tt
-  about (Settling n p) = tt
-  about (Sleeping n p l) = tt
-  about (Holding n p) = tt
+  about (Begun p (Remaining which)) = tt
+  about (Begun p (Reading which l ask)) = (refl, refl)
+  about (Begun p HoldRemaining) = tt
+  about (Begun p (HoldReading l ask)) = tt
+  about (Begun p (Clearing channel)) = tt
+  about (Begun p (Writing n write)) = tt
+  about (Begun p (Settling n)) = tt
+  about (Begun p (Sleeping n l)) = tt
+  about (Begun p (Holding n)) = tt
 
   pub in-read : (p : Switch) (ask : Ask) → mode-ask p ≡ some ask → (switch-want mode p ≡ read-want 10 ask) × (switch-place p ≡ Reply 10)
   in-read p ask e = subst (About p) e (about p)
@@ -93,25 +97,25 @@ module _ (mode : ControlMode) where
   pub ask-of : (p : Switch) → wants-send reads-mode (some (switch-want mode p)) ≡ true → (o : Instant) × (mode-ask p ≡ some (Sending o))
   unfolding wants-send reads-mode
   ask-of Starting e = absurd (true≢false (sym e))
-  ask-of (Remaining which p) e = absurd (true≢false (sym e))
-  ask-of (Reading which p l Opening) e = absurd (true≢false (sym e))
-  ask-of (Reading which p l (Sending o)) e = (o, refl)
-  ask-of (Reading which p l (Waiting (Checking o))) e = absurd (true≢false (sym e))
-  ask-of (Reading which p l (Waiting (Napping o))) e = absurd (true≢false (sym e))
-  ask-of (HoldRemaining p) e = absurd (true≢false (sym e))
-  ask-of (HoldReading p l Opening) e = absurd (true≢false (sym e))
-  ask-of (HoldReading p l (Sending o)) e = absurd (true≢false (sym e))
-  ask-of (HoldReading p l (Waiting (Checking o))) e = absurd (true≢false (sym e))
-  ask-of (HoldReading p l (Waiting (Napping o))) e = absurd (true≢false (sym e))
-  ask-of (Clearing channel p) e = absurd (true≢false (sym e))
-  ask-of (Writing n p (Write.Sending m)) e = absurd (true≢false (sym e))
-  ask-of (Writing n p (Write.Waiting m Ack.Opening)) e = absurd (true≢false (sym e))
-  ask-of (Writing n p (Write.Waiting m (Ack.Waiting (Checking o)))) e = absurd (true≢false (sym e))
-  ask-of (Writing n p (Write.Waiting m (Ack.Waiting (Napping o)))) e = absurd (true≢false (sym e))
-  ask-of (Writing n p (Write.Gap m)) e = absurd (true≢false (sym e))
-  ask-of (Settling n p) e = absurd (true≢false (sym e))
-  ask-of (Sleeping n p l) e = absurd (true≢false (sym e))
-  ask-of (Holding n p) e = absurd (true≢false (sym e))
+  ask-of (Begun p (Remaining which)) e = absurd (true≢false (sym e))
+  ask-of (Begun p (Reading which l Opening)) e = absurd (true≢false (sym e))
+  ask-of (Begun p (Reading which l (Sending o))) e = (o, refl)
+  ask-of (Begun p (Reading which l (Waiting (Checking o)))) e = absurd (true≢false (sym e))
+  ask-of (Begun p (Reading which l (Waiting (Napping o)))) e = absurd (true≢false (sym e))
+  ask-of (Begun p HoldRemaining) e = absurd (true≢false (sym e))
+  ask-of (Begun p (HoldReading l Opening)) e = absurd (true≢false (sym e))
+  ask-of (Begun p (HoldReading l (Sending o))) e = absurd (true≢false (sym e))
+  ask-of (Begun p (HoldReading l (Waiting (Checking o)))) e = absurd (true≢false (sym e))
+  ask-of (Begun p (HoldReading l (Waiting (Napping o)))) e = absurd (true≢false (sym e))
+  ask-of (Begun p (Clearing channel)) e = absurd (true≢false (sym e))
+  ask-of (Begun p (Writing n (Write.Sending m))) e = absurd (true≢false (sym e))
+  ask-of (Begun p (Writing n (Write.Waiting m Ack.Opening))) e = absurd (true≢false (sym e))
+  ask-of (Begun p (Writing n (Write.Waiting m (Ack.Waiting (Checking o))))) e = absurd (true≢false (sym e))
+  ask-of (Begun p (Writing n (Write.Waiting m (Ack.Waiting (Napping o))))) e = absurd (true≢false (sym e))
+  ask-of (Begun p (Writing n (Write.Gap m))) e = absurd (true≢false (sym e))
+  ask-of (Begun p (Settling n)) e = absurd (true≢false (sym e))
+  ask-of (Begun p (Sleeping n l)) e = absurd (true≢false (sym e))
+  ask-of (Begun p (Holding n)) e = absurd (true≢false (sym e))
 
 -- ---- one answer to a switch
 
@@ -215,15 +219,15 @@ module _ (mode : ControlMode) (timeout : Duration) (e : Entry) (a : Answer) wher
 
   pub switch-law : (p : Switch) → Law (mode-ask p) (switch-step mode timeout e p a)
   switch-law Starting = tt
-  switch-law (Remaining which p) = mode-timed-law which p (capped-remaining (p .deadline) (mode-read-cap timeout) (reading-of a))
-  switch-law (Reading which p l ask) = mode-read-law which p l ask (get-step Typed.UInt32 l e ask a) (get-saw l a e Typed.UInt32 ask)
-  switch-law (HoldRemaining p) = hold-timed-law p (capped-remaining (p .deadline) (hold-read-cap timeout) (reading-of a))
-  switch-law (HoldReading p l ask) = hold-read-law p l (get-step Typed.Float l e ask a)
-  switch-law (Clearing c p) = cleared-law c p
-  switch-law (Writing n p w) = written-law n p (write-step (mode-value mode) e w a)
-  switch-law (Settling n p) = settled-law n p (settle-time (p .deadline) (mode-read-cap timeout) (reading-of a))
-  switch-law (Sleeping n p l) = finish-law n p
-  switch-law (Holding n p) = held-law n p (send-result a)
+  switch-law (Begun p (Remaining which)) = mode-timed-law which p (capped-remaining (p .deadline) (mode-read-cap timeout) (reading-of a))
+  switch-law (Begun p (Reading which l ask)) = mode-read-law which p l ask (get-step Typed.UInt32 l e ask a) (get-saw l a e Typed.UInt32 ask)
+  switch-law (Begun p HoldRemaining) = hold-timed-law p (capped-remaining (p .deadline) (hold-read-cap timeout) (reading-of a))
+  switch-law (Begun p (HoldReading l ask)) = hold-read-law p l (get-step Typed.Float l e ask a)
+  switch-law (Begun p (Clearing c)) = cleared-law c p
+  switch-law (Begun p (Writing n w)) = written-law n p (write-step (mode-value mode) e w a)
+  switch-law (Begun p (Settling n)) = settled-law n p (settle-time (p .deadline) (mode-read-cap timeout) (reading-of a))
+  switch-law (Begun p (Sleeping n l)) = finish-law n p
+  switch-law (Begun p (Holding n)) = held-law n p (send-result a)
 
 -- ---- a look that finds the mode ends the switch, done
 
@@ -246,39 +250,39 @@ module _ (mode : ControlMode) (timeout : Duration) (stamp : Instant) where
 
   pub ends-done : (p : Switch) (a : Answer) → Ends-done p (mode-ask p) a
   ends-done Starting a = tt
-  ends-done (Remaining which p) a = tt
-  ends-done (Reading which p l Opening) a = tt
-  ends-done (Reading which p l (Sending o)) a = λ sent fresh.
+  ends-done (Begun p (Remaining which)) a = tt
+  ends-done (Begun p (Reading which l Opening)) a = tt
+  ends-done (Begun p (Reading which l (Sending o))) a = λ sent fresh.
       ap (λ (x : SendResult). mode-read mode which p l (get-by Typed.UInt32 (read-by holding-mode (ask-sent o x)))) sent ∙ found-done which p l o fresh
-  ends-done (Reading which p l (Waiting (Checking o))) a = tt
-  ends-done (Reading which p l (Waiting (Napping o))) a = λ fresh. found-done which p l o fresh
-  ends-done (HoldRemaining p) a = tt
-  ends-done (HoldReading p l ask) a = tt
-  ends-done (Clearing channel p) a = tt
-  ends-done (Writing n p write) a = tt
-  ends-done (Settling n p) a = tt
-  ends-done (Sleeping n p l) a = tt
-  ends-done (Holding n p) a = tt
+  ends-done (Begun p (Reading which l (Waiting (Checking o)))) a = tt
+  ends-done (Begun p (Reading which l (Waiting (Napping o)))) a = λ fresh. found-done which p l o fresh
+  ends-done (Begun p HoldRemaining) a = tt
+  ends-done (Begun p (HoldReading l ask)) a = tt
+  ends-done (Begun p (Clearing channel)) a = tt
+  ends-done (Begun p (Writing n write)) a = tt
+  ends-done (Begun p (Settling n)) a = tt
+  ends-done (Begun p (Sleeping n l)) a = tt
+  ends-done (Begun p (Holding n)) a = tt
 
 -- ---- what a switch may be in once a read is sent, until another send is wanted
 
 abbrev pub Quiet : Instant → Switch → Type 0
 Quiet o Starting = ⊥
-Quiet o (Remaining which p) = ⊥
-Quiet o (Reading which p l Opening) = ⊥
-Quiet o (Reading which p l (Sending x)) = ⊥
-Quiet o (Reading which p l (Waiting w)) = wait-opening w ≡ o
-Quiet o (HoldRemaining p) = Unit {0}
-Quiet o (HoldReading p l Opening) = Unit {0}
-Quiet o (HoldReading p l (Sending x)) = Unit {0}
-Quiet o (HoldReading p l (Waiting w)) = ⊥
-Quiet o (Clearing channel p) = Unit {0}
-Quiet o (Writing n p (Write.Sending m)) = Unit {0}
-Quiet o (Writing n p (Write.Waiting m ack)) = ⊥
-Quiet o (Writing n p (Write.Gap m)) = ⊥
-Quiet o (Settling n p) = ⊥
-Quiet o (Sleeping n p l) = ⊥
-Quiet o (Holding n p) = ⊥
+Quiet o (Begun p (Remaining which)) = ⊥
+Quiet o (Begun p (Reading which l Opening)) = ⊥
+Quiet o (Begun p (Reading which l (Sending x))) = ⊥
+Quiet o (Begun p (Reading which l (Waiting w))) = wait-opening w ≡ o
+Quiet o (Begun p HoldRemaining) = Unit {0}
+Quiet o (Begun p (HoldReading l Opening)) = Unit {0}
+Quiet o (Begun p (HoldReading l (Sending x))) = Unit {0}
+Quiet o (Begun p (HoldReading l (Waiting w))) = ⊥
+Quiet o (Begun p (Clearing channel)) = Unit {0}
+Quiet o (Begun p (Writing n (Write.Sending m))) = Unit {0}
+Quiet o (Begun p (Writing n (Write.Waiting m ack))) = ⊥
+Quiet o (Begun p (Writing n (Write.Gap m))) = ⊥
+Quiet o (Begun p (Settling n)) = ⊥
+Quiet o (Begun p (Sleeping n l)) = ⊥
+Quiet o (Begun p (Holding n)) = ⊥
 
 abbrev pub Wants-send : Want → Type 0
 Wants-send Clock = ⊥
@@ -354,55 +358,55 @@ module _ (mode : ControlMode) (timeout : Duration) (e : Entry) (a : Answer) (o :
 
   sent-quiet : (p : Switch) → Sent-quiet p (mode-ask p)
   sent-quiet Starting = tt
-  sent-quiet (Remaining which p) = tt
-  sent-quiet (Reading which p l Opening) = tt
-  sent-quiet (Reading which p l (Sending x)) = λ is. reading-quiet which p l (Sending x) tt (λ i since. sym (since .0) ∙ is)
-  sent-quiet (Reading which p l (Waiting w)) = tt
-  sent-quiet (HoldRemaining p) = tt
-  sent-quiet (HoldReading p l ask) = tt
-  sent-quiet (Clearing channel p) = tt
-  sent-quiet (Writing n p write) = tt
-  sent-quiet (Settling n p) = tt
-  sent-quiet (Sleeping n p l) = tt
-  sent-quiet (Holding n p) = tt
+  sent-quiet (Begun p (Remaining which)) = tt
+  sent-quiet (Begun p (Reading which l Opening)) = tt
+  sent-quiet (Begun p (Reading which l (Sending x))) = λ is. reading-quiet which p l (Sending x) tt (λ i since. sym (since .0) ∙ is)
+  sent-quiet (Begun p (Reading which l (Waiting w))) = tt
+  sent-quiet (Begun p HoldRemaining) = tt
+  sent-quiet (Begun p (HoldReading l ask)) = tt
+  sent-quiet (Begun p (Clearing channel)) = tt
+  sent-quiet (Begun p (Writing n write)) = tt
+  sent-quiet (Begun p (Settling n)) = tt
+  sent-quiet (Begun p (Sleeping n l)) = tt
+  sent-quiet (Begun p (Holding n)) = tt
 
   pub sending-quiet : (p : Switch) → mode-ask p ≡ some (Sending o) → Stays-quiet (switch-step mode timeout e p a)
   sending-quiet p is = subst (Sent-quiet p) is (sent-quiet p) refl
 
   pub stays-quiet : (p : Switch) → Quiet o p → (Wants-send (switch-want mode p) → ⊥) → Stays-quiet (switch-step mode timeout e p a)
   stays-quiet Starting quiet silent = absurd quiet
-  stays-quiet (Remaining which p) quiet silent = absurd quiet
-  stays-quiet (Reading which p l Opening) quiet silent = absurd quiet
-  stays-quiet (Reading which p l (Sending x)) quiet silent = absurd quiet
-  stays-quiet (Reading which p l (Waiting w)) quiet silent = reading-quiet which p l (Waiting w) tt (λ i since. sym since ∙ quiet)
-  stays-quiet (HoldRemaining p) quiet silent = hold-timed-quiet p (capped-remaining (p .deadline) (hold-read-cap timeout) (reading-of a))
-  stays-quiet (HoldReading p l Opening) quiet silent = tt
-  stays-quiet (HoldReading p l (Sending x)) quiet silent = absurd (silent tt)
-  stays-quiet (HoldReading p l (Waiting w)) quiet silent = absurd quiet
-  stays-quiet (Clearing channel p) quiet silent = absurd (silent tt)
-  stays-quiet (Writing n p (Write.Sending m)) quiet silent = absurd (silent tt)
-  stays-quiet (Writing n p (Write.Waiting m ack)) quiet silent = absurd quiet
-  stays-quiet (Writing n p (Write.Gap m)) quiet silent = absurd quiet
-  stays-quiet (Settling n p) quiet silent = absurd quiet
-  stays-quiet (Sleeping n p l) quiet silent = absurd quiet
-  stays-quiet (Holding n p) quiet silent = absurd quiet
+  stays-quiet (Begun p (Remaining which)) quiet silent = absurd quiet
+  stays-quiet (Begun p (Reading which l Opening)) quiet silent = absurd quiet
+  stays-quiet (Begun p (Reading which l (Sending x))) quiet silent = absurd quiet
+  stays-quiet (Begun p (Reading which l (Waiting w))) quiet silent = reading-quiet which p l (Waiting w) tt (λ i since. sym since ∙ quiet)
+  stays-quiet (Begun p HoldRemaining) quiet silent = hold-timed-quiet p (capped-remaining (p .deadline) (hold-read-cap timeout) (reading-of a))
+  stays-quiet (Begun p (HoldReading l Opening)) quiet silent = tt
+  stays-quiet (Begun p (HoldReading l (Sending x))) quiet silent = absurd (silent tt)
+  stays-quiet (Begun p (HoldReading l (Waiting w))) quiet silent = absurd quiet
+  stays-quiet (Begun p (Clearing channel)) quiet silent = absurd (silent tt)
+  stays-quiet (Begun p (Writing n (Write.Sending m))) quiet silent = absurd (silent tt)
+  stays-quiet (Begun p (Writing n (Write.Waiting m ack))) quiet silent = absurd quiet
+  stays-quiet (Begun p (Writing n (Write.Gap m))) quiet silent = absurd quiet
+  stays-quiet (Begun p (Settling n)) quiet silent = absurd quiet
+  stays-quiet (Begun p (Sleeping n l)) quiet silent = absurd quiet
+  stays-quiet (Begun p (Holding n)) quiet silent = absurd quiet
 
 -- in it only the read's own wait sleeps
 pub quiet-sleep : (mode : ControlMode) (o : Instant) (p : Switch) → Quiet o p → fits (switch-want mode p) Slept ≡ true → mode-ask p ≡ some (Waiting (Napping o))
 quiet-sleep mode o Starting quiet f = absurd quiet
-quiet-sleep mode o (Remaining which p) quiet f = absurd quiet
-quiet-sleep mode o (Reading which p l Opening) quiet f = absurd quiet
-quiet-sleep mode o (Reading which p l (Sending x)) quiet f = absurd quiet
-quiet-sleep mode o (Reading which p l (Waiting (Checking x))) quiet f = absurd (true≢false (sym f))
-quiet-sleep mode o (Reading which p l (Waiting (Napping x))) quiet f = ap (λ (i : Instant). some (Waiting (Napping i))) quiet
-quiet-sleep mode o (HoldRemaining p) quiet f = absurd (true≢false (sym f))
-quiet-sleep mode o (HoldReading p l Opening) quiet f = absurd (true≢false (sym f))
-quiet-sleep mode o (HoldReading p l (Sending x)) quiet f = absurd (true≢false (sym f))
-quiet-sleep mode o (HoldReading p l (Waiting w)) quiet f = absurd quiet
-quiet-sleep mode o (Clearing channel p) quiet f = absurd (true≢false (sym f))
-quiet-sleep mode o (Writing n p (Write.Sending m)) quiet f = absurd (true≢false (sym f))
-quiet-sleep mode o (Writing n p (Write.Waiting m ack)) quiet f = absurd quiet
-quiet-sleep mode o (Writing n p (Write.Gap m)) quiet f = absurd quiet
-quiet-sleep mode o (Settling n p) quiet f = absurd quiet
-quiet-sleep mode o (Sleeping n p l) quiet f = absurd quiet
-quiet-sleep mode o (Holding n p) quiet f = absurd quiet
+quiet-sleep mode o (Begun p (Remaining which)) quiet f = absurd quiet
+quiet-sleep mode o (Begun p (Reading which l Opening)) quiet f = absurd quiet
+quiet-sleep mode o (Begun p (Reading which l (Sending x))) quiet f = absurd quiet
+quiet-sleep mode o (Begun p (Reading which l (Waiting (Checking x)))) quiet f = absurd (true≢false (sym f))
+quiet-sleep mode o (Begun p (Reading which l (Waiting (Napping x)))) quiet f = ap (λ (i : Instant). some (Waiting (Napping i))) quiet
+quiet-sleep mode o (Begun p HoldRemaining) quiet f = absurd (true≢false (sym f))
+quiet-sleep mode o (Begun p (HoldReading l Opening)) quiet f = absurd (true≢false (sym f))
+quiet-sleep mode o (Begun p (HoldReading l (Sending x))) quiet f = absurd (true≢false (sym f))
+quiet-sleep mode o (Begun p (HoldReading l (Waiting w))) quiet f = absurd quiet
+quiet-sleep mode o (Begun p (Clearing channel)) quiet f = absurd (true≢false (sym f))
+quiet-sleep mode o (Begun p (Writing n (Write.Sending m))) quiet f = absurd (true≢false (sym f))
+quiet-sleep mode o (Begun p (Writing n (Write.Waiting m ack))) quiet f = absurd quiet
+quiet-sleep mode o (Begun p (Writing n (Write.Gap m))) quiet f = absurd quiet
+quiet-sleep mode o (Begun p (Settling n)) quiet f = absurd quiet
+quiet-sleep mode o (Begun p (Sleeping n l)) quiet f = absurd quiet
+quiet-sleep mode o (Begun p (Holding n)) quiet f = absurd quiet

@@ -17,11 +17,13 @@ use Rattle.want.specs.Message.{message-id, message-data}
 use Rattle.want.specs.declared.Answer.{Answer}
 use Rattle.want.specs.declared.Want.{Want}
 use Rattle.want.specs.declared.Want.the-variants.{Clock, Send, Sleep}
-use Rattle.ensure_mode.specs.Switch.{switch-want, switch-place, switch-step}
-use Rattle.ensure_mode.specs.declared.Switch.{Switch}
-use Rattle.ensure_mode.specs.declared.SwitchNext.{SwitchNext}
-use Rattle.ensure_mode.specs.declared.SwitchNext.the-variants.{Goes, Done, Failed}
-use Rattle.machine.specs.Machine.{machine-want, machine-step, after-switch}
+use Rattle.switch_stage.specs.Stage.{switch-want, switch-place}
+use Rattle.ensure_mode.specs.Switch.{switch-step}
+use Rattle.switch_stage.specs.declared.Switch.{Switch}
+use Rattle.switch_stage.specs.declared.SwitchNext.{SwitchNext}
+use Rattle.switch_stage.specs.declared.SwitchNext.the-variants.{Goes, Done, Failed}
+use Rattle.machine.specs.Machine.{machine-want}
+use Rattle.machine_step.specs.Step.{machine-step, after-switch}
 use Rattle.machine.specs.declared.Machine.{Machine}
 use Rattle.machine.specs.declared.Machine.the-variants.{EnsureControlMode}
 use Rattle.machine.specs.declared.RunResult.{RunResult}

@@ -32,8 +32,9 @@ use Rattle.runs.specs.declared.Told.{Told}
 use Rattle.runs.specs.declared.Told.the-variants.{WantClock, WantSend, WantSleep, Result, Refused}
 use Rattle.runs.specs.declared.Turn.{Turn}
 use Rattle.runs.proofs.Effects.{answer-keeps, answer-last, answer-refused}
-use Rattle.run_starts.specs.Start.{begin, get-start, write-start, fresh-state-start, store-start, mode-start, get-register-u32, get-register-f32, write-register-u32, write-register-f32, request-fresh-state, store-parameters, ensure-control-mode}
-use Rattle.run_starts.specs.declared.Start.{Start as Starting}
+use Rattle.start_machine.specs.Start.{get-start, write-start, fresh-state-start, store-start, mode-start}
+use Rattle.run_starts.specs.Start.{begin, get-register-u32, get-register-f32, write-register-u32, write-register-f32, request-fresh-state, store-parameters, ensure-control-mode}
+use Rattle.start_machine.specs.declared.Start.{Start as Starting}
 use Rattle.run_starts.proofs.Effects.{start-keeps, start-refused}
 use Rattle.mode_switch.specs.Claim.{Start, get-u32, get-f32, write-u32, write-f32, fresh-state, store, switch, Call, start, answer, frame-lent, patch, Returned, told, patched, begun, step, events, session-after, mode-reply-by, mode-reply, replied, taken-in, reply-with, last-reply, Refusal}
 

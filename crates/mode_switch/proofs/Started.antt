@@ -23,7 +23,7 @@ use Rattle.control_mode.specs.declared.ControlMode.{ControlMode}
 use Rattle.control_mode.specs.declared.ControlMode.the-variants.{Mit, PosVel, Vel, ForcePos}
 use Rattle.control_mode.specs.declared.ModeCheck.{ModeCheck}
 use Rattle.control_mode.specs.declared.ModeCheck.the-variants.{Unknown, Known}
-use Rattle.ensure_mode.specs.declared.Switch.the-variants.{Starting}
+use Rattle.switch_stage.specs.declared.Switch.the-variants.{Starting}
 use Rattle.machine.specs.declared.Machine.{Machine}
 use Rattle.machine.specs.declared.Machine.the-variants.{EnsureControlMode}
 use Rattle.session.specs.Session.{fresh}
@@ -33,9 +33,9 @@ use Rattle.session.specs.declared.start.Outcome.{Outcome}
 use Rattle.session.specs.declared.start.Outcome.the-variants as Outcome
 use Rattle.session.specs.declared.start.Started.{Started}
 use Rattle.session.proofs.Fresh.{fresh-reply, fresh-replies, fresh-last}
-use Rattle.run_starts.specs.Start.{mode-by, mode-start}
-use Rattle.run_starts.specs.declared.Start.{Start}
-use Rattle.run_starts.specs.declared.Start.the-variants.{Accepted, Refused}
+use Rattle.start_machine.specs.Start.{mode-by, mode-start}
+use Rattle.start_machine.specs.declared.Start.{Start}
+use Rattle.start_machine.specs.declared.Start.the-variants.{Accepted, Refused}
 use Rattle.mode_switch.specs.Claim.{started, Fresh, of-limits, of-model}
 use Rattle.mode_switch.proofs.Sessions.{mode-entry, Sound}
 

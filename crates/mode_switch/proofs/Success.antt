@@ -28,11 +28,12 @@ use Rattle.wait.specs.declared.Wait.{Wait}
 use Rattle.wait.specs.declared.Wait.the-variants.{Checking, Napping}
 use Rattle.wait.specs.declared.ask.Ask.{Ask}
 use Rattle.wait.specs.declared.ask.Ask.the-variants.{Opening, Sending, Waiting}
-use Rattle.ensure_mode.specs.Switch.{mode-value, switch-want, switch-place, switch-step}
-use Rattle.ensure_mode.specs.declared.Switch.{Switch}
-use Rattle.ensure_mode.specs.declared.Switch.the-variants.{Starting}
-use Rattle.ensure_mode.specs.declared.SwitchNext.{SwitchNext}
-use Rattle.ensure_mode.specs.declared.SwitchNext.the-variants.{Goes, Done, Failed}
+use Rattle.switch_stage.specs.Stage.{mode-value, switch-want, switch-place}
+use Rattle.ensure_mode.specs.Switch.{switch-step}
+use Rattle.switch_stage.specs.declared.Switch.{Switch}
+use Rattle.switch_stage.specs.declared.Switch.the-variants.{Starting}
+use Rattle.switch_stage.specs.declared.SwitchNext.{SwitchNext}
+use Rattle.switch_stage.specs.declared.SwitchNext.the-variants.{Goes, Done, Failed}
 use Rattle.machine.specs.declared.RunResult.{RunResult}
 use Rattle.machine.specs.declared.RunResult.the-variants as Result
 use Rattle.session.specs.declared.Heard.{Heard}

@@ -20,9 +20,10 @@ use Rattle.wait.specs.declared.Wait.the-variants.{Checking, Napping}
 use Rattle.wait.specs.declared.ask.Ask.the-variants as Ask
 use Rattle.confirmed_write.specs.declared.ack.AckWait.the-variants as Ack
 use Rattle.confirmed_write.specs.declared.Write.the-variants as Write
-use Rattle.ensure_mode.specs.Switch.{switch-want}
-use Rattle.ensure_mode.specs.declared.Switch.{Switch}
-use Rattle.ensure_mode.specs.declared.Switch.the-variants.{Starting, Remaining, Reading, HoldRemaining, HoldReading, Clearing, Writing, Settling, Sleeping, Holding}
+use Rattle.switch_stage.specs.Stage.{switch-want}
+use Rattle.switch_stage.specs.declared.Stage.the-variants.{Remaining, Reading, HoldRemaining, HoldReading, Clearing, Writing, Settling, Sleeping, Holding}
+use Rattle.switch_stage.specs.declared.Switch.{Switch}
+use Rattle.switch_stage.specs.declared.Switch.the-variants.{Starting, Begun}
 use Rattle.session.specs.declared.Heard.{Heard}
 use Rattle.runs.specs.Runs.{wanted}
 use Rattle.runs.specs.declared.Told.the-variants.{WantSend}
@@ -43,25 +44,25 @@ Own mode (Sleep length) = Unit {0}
 own : (mode : ControlMode) (p : Switch) → Own mode (switch-want mode p)
 unfolding bits-of
 own mode Starting = tt
-own mode (Remaining which p) = tt
-own mode (Reading which p l Ask.Opening) = tt
-own mode (Reading which p l (Ask.Sending o)) = inl refl
-own mode (Reading which p l (Ask.Waiting (Checking o))) = tt
-own mode (Reading which p l (Ask.Waiting (Napping o))) = tt
-own mode (HoldRemaining p) = tt
-own mode (HoldReading p l Ask.Opening) = tt
-own mode (HoldReading p l (Ask.Sending o)) = inr refl
-own mode (HoldReading p l (Ask.Waiting (Checking o))) = tt
-own mode (HoldReading p l (Ask.Waiting (Napping o))) = tt
-own mode (Clearing channel p) = tt
-own mode (Writing n p (Write.Sending m)) = (refl, refl)
-own mode (Writing n p (Write.Waiting m Ack.Opening)) = tt
-own mode (Writing n p (Write.Waiting m (Ack.Waiting (Checking o)))) = tt
-own mode (Writing n p (Write.Waiting m (Ack.Waiting (Napping o)))) = tt
-own mode (Writing n p (Write.Gap m)) = tt
-own mode (Settling n p) = tt
-own mode (Sleeping n p l) = tt
-own mode (Holding n p) = tt
+own mode (Begun p (Remaining which)) = tt
+own mode (Begun p (Reading which l Ask.Opening)) = tt
+own mode (Begun p (Reading which l (Ask.Sending o))) = inl refl
+own mode (Begun p (Reading which l (Ask.Waiting (Checking o)))) = tt
+own mode (Begun p (Reading which l (Ask.Waiting (Napping o)))) = tt
+own mode (Begun p HoldRemaining) = tt
+own mode (Begun p (HoldReading l Ask.Opening)) = tt
+own mode (Begun p (HoldReading l (Ask.Sending o))) = inr refl
+own mode (Begun p (HoldReading l (Ask.Waiting (Checking o)))) = tt
+own mode (Begun p (HoldReading l (Ask.Waiting (Napping o)))) = tt
+own mode (Begun p (Clearing channel)) = tt
+own mode (Begun p (Writing n (Write.Sending m))) = (refl, refl)
+own mode (Begun p (Writing n (Write.Waiting m Ack.Opening))) = tt
+own mode (Begun p (Writing n (Write.Waiting m (Ack.Waiting (Checking o))))) = tt
+own mode (Begun p (Writing n (Write.Waiting m (Ack.Waiting (Napping o))))) = tt
+own mode (Begun p (Writing n (Write.Gap m))) = tt
+own mode (Begun p (Settling n)) = tt
+own mode (Begun p (Sleeping n l)) = tt
+own mode (Begun p (Holding n)) = tt
 
 -- weights of commands: each of them, reads of register 10, writes of it
 abbrev pub each : Label → ℕ

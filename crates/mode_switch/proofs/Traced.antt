@@ -10,11 +10,12 @@ use Rattle.motor_core.specs.declared.time.Duration.{Duration}
 use Rattle.control_mode.specs.declared.ControlMode.{ControlMode}
 use Rattle.want.specs.declared.Want.{Want}
 use Rattle.want.specs.declared.Want.the-variants.{Clock, Send, Sleep}
-use Rattle.ensure_mode.specs.Switch.{switch-want, switch-step}
-use Rattle.ensure_mode.specs.declared.Switch.{Switch}
-use Rattle.ensure_mode.specs.declared.SwitchNext.{SwitchNext}
-use Rattle.ensure_mode.specs.declared.SwitchNext.the-variants.{Goes, Done, Failed}
-use Rattle.machine.specs.Machine.{after-switch}
+use Rattle.switch_stage.specs.Stage.{switch-want}
+use Rattle.ensure_mode.specs.Switch.{switch-step}
+use Rattle.switch_stage.specs.declared.Switch.{Switch}
+use Rattle.switch_stage.specs.declared.SwitchNext.{SwitchNext}
+use Rattle.switch_stage.specs.declared.SwitchNext.the-variants.{Goes, Done, Failed}
+use Rattle.machine_step.specs.Step.{after-switch}
 use Rattle.machine.specs.declared.Machine.{Machine}
 use Rattle.machine.specs.declared.RunResult.{RunResult}
 use Rattle.machine.specs.declared.RunResult.the-variants as Result

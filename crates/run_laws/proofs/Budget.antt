@@ -62,24 +62,29 @@ use Rattle.fresh_state.specs.declared.store.StoreNext.{StoreNext}
 use Rattle.fresh_state.specs.declared.store.StoreNext.the-variants as Stored
 use Rattle.control_mode.specs.declared.ControlMode.{ControlMode}
 use Rattle.control_mode.specs.declared.ControlMode.the-variants.{Mit, PosVel, Vel, ForcePos}
-use Rattle.ensure_mode.specs.Switch.{mode-value, with-error, prepare, not-yet, mode-read, hold-read, hold-at, finish, written, held, cleared, mode-timed, hold-timed, settled, switch-want, switch-step}
+use Rattle.switch_stage.specs.Stage.{mode-value, switch-want}
+use Rattle.prepare_switch.specs.Prepare.{prepare, hold-read, cleared, hold-timed}
+use Rattle.finish_switch.specs.Finish.{hold-at, finish, written, held, settled}
+use Rattle.ensure_mode.specs.Switch.{with-error, not-yet, mode-read, mode-timed, switch-step}
 use Rattle.time_left.specs.TimeLeft.{shorter, budget-cap, mode-read-cap, hold-read-cap, remaining-until, capped, settle-time}
 use Rattle.time_left.specs.declared.TimeLeft.{TimeLeft}
 use Rattle.time_left.specs.declared.TimeLeft.the-variants as Left
-use Rattle.ensure_mode.specs.declared.HoldPosition.{HoldPosition}
-use Rattle.ensure_mode.specs.declared.HoldPosition.the-variants as Position
-use Rattle.ensure_mode.specs.declared.ModeRead.{ModeRead}
-use Rattle.ensure_mode.specs.declared.ModeRead.the-variants.{First, Verify}
-use Rattle.ensure_mode.specs.declared.Progress.{Progress}
-use Rattle.ensure_mode.specs.declared.Switch.{Switch}
-use Rattle.ensure_mode.specs.declared.Switch.the-variants as Switch
-use Rattle.ensure_mode.specs.declared.SwitchNext.{SwitchNext}
-use Rattle.ensure_mode.specs.declared.SwitchNext.the-variants as Switched
-use Rattle.machine.specs.Machine.{machine-want, after-read, after-write, after-state, after-store, after-switch, machine-step}
+use Rattle.switch_stage.specs.declared.HoldPosition.{HoldPosition}
+use Rattle.switch_stage.specs.declared.HoldPosition.the-variants as Position
+use Rattle.switch_stage.specs.declared.ModeRead.{ModeRead}
+use Rattle.switch_stage.specs.declared.ModeRead.the-variants.{First, Verify}
+use Rattle.switch_stage.specs.declared.Progress.{Progress}
+use Rattle.switch_stage.specs.declared.Stage.the-variants as Stage
+use Rattle.switch_stage.specs.declared.Switch.{Switch}
+use Rattle.switch_stage.specs.declared.Switch.the-variants as Switch
+use Rattle.switch_stage.specs.declared.SwitchNext.{SwitchNext}
+use Rattle.switch_stage.specs.declared.SwitchNext.the-variants as Switched
+use Rattle.machine.specs.Machine.{machine-want}
+use Rattle.machine_step.specs.Step.{after-read, after-write, after-state, after-store, after-switch, machine-step}
 use Rattle.machine.specs.declared.Machine.{Machine}
 use Rattle.machine.specs.declared.Machine.the-variants.{GetRegister, WriteRegister, RequestFreshState, StoreParameters, EnsureControlMode}
-use Rattle.machine.specs.declared.Next.{Next}
-use Rattle.machine.specs.declared.Next.the-variants.{Goes, Ends}
+use Rattle.machine_step.specs.declared.Next.{Next}
+use Rattle.machine_step.specs.declared.Next.the-variants.{Goes, Ends}
 use Rattle.run_laws.specs.Budget.{Budget, clearing, weigh, ask-left, asked-left, read-left, state-left, disabling, store-left, stored-left, ack-left, acked-left, more-tries, write-left, written-left, mode-reading, holding, finishing, more-rounds, rounds, preparing, unfound, switch-left, switched-left, machine-left, left}
 use Rattle.run_laws.specs.Clock.{Clocked, known-after, fine, All-fine}
 use Rattle.run_laws.specs.Systems.{still, waiting, acking-on, acking, running-on, running}
@@ -329,33 +334,33 @@ module _ {κ : Clocked} (β : Budget κ) where
 
   pub switch-falls : (mode : ControlMode) (total : Duration) (k : κ .Known) (e : Entry) (s : Switch) (a : Answer) → fine κ (switch-want mode s) a k → weigh β (switch-want mode s) + switched-left β mode (known-after κ (switch-want mode s) a k) (switch-step mode total e s a) ≤ switch-left β mode k s
   switch-falls mode total k e Switch.Starting a f = omega arith
-  switch-falls mode total k e (Switch.Remaining which p) a f = mode-timed-left mode (κ .hear (reading-of a)) which p total (remaining-until (p .deadline) (reading-of a))
-  switch-falls mode total k e (Switch.Reading which p l q) a f =
+  switch-falls mode total k e (Switch.Begun p (Stage.Remaining which)) a f = mode-timed-left mode (κ .hear (reading-of a)) which p total (remaining-until (p .deadline) (reading-of a))
+  switch-falls mode total k e (Switch.Begun p (Stage.Reading which l q)) a f =
       let k′ = known-after κ (ask-want (ReadRegister 10) q) a k in
       omega (arith, get-falls UInt32 10 l k e q a f, mode-read-left mode k′ which p l (get-step UInt32 l e q a))
-  switch-falls mode total k e (Switch.HoldRemaining p) a f = hold-timed-left mode (κ .hear (reading-of a)) p total (remaining-until (p .deadline) (reading-of a))
-  switch-falls mode total k e (Switch.HoldReading p l q) a f =
+  switch-falls mode total k e (Switch.Begun p Stage.HoldRemaining) a f = hold-timed-left mode (κ .hear (reading-of a)) p total (remaining-until (p .deadline) (reading-of a))
+  switch-falls mode total k e (Switch.Begun p (Stage.HoldReading l q)) a f =
       let k′ = known-after κ (ask-want (ReadRegister 80) q) a k in
       omega (arith, get-falls Float 80 l k e q a f, hold-read-left mode k′ p l (get-step Float l e q a))
-  switch-falls mode total k e (Switch.Clearing c p) a f = cleared-left mode k c p
-  switch-falls mode total k e (Switch.Writing n p w) a f =
+  switch-falls mode total k e (Switch.Begun p (Stage.Clearing c)) a f = cleared-left mode k c p
+  switch-falls mode total k e (Switch.Begun p (Stage.Writing n w)) a f =
       let v = mode-value mode in
       omega (arith, write-falls 10 v k e w a f, written-mode-left mode (known-after κ (write-want 10 v w) a k) n p (write-step v e w a))
-  switch-falls mode total k e (Switch.Settling n p) a f = settled-left mode (κ .hear (reading-of a)) n p (settle-time (p .deadline) (mode-read-cap total) (reading-of a))
-  switch-falls mode total k e (Switch.Sleeping n p l) a f = omega (arith, finish-left mode (κ .nap l k) n p)
-  switch-falls mode total k e (Switch.Holding n p) a f = omega (arith, held-left mode k n p (send-result a))
+  switch-falls mode total k e (Switch.Begun p (Stage.Settling n)) a f = settled-left mode (κ .hear (reading-of a)) n p (settle-time (p .deadline) (mode-read-cap total) (reading-of a))
+  switch-falls mode total k e (Switch.Begun p (Stage.Sleeping n l)) a f = omega (arith, finish-left mode (κ .nap l k) n p)
+  switch-falls mode total k e (Switch.Begun p (Stage.Holding n)) a f = omega (arith, held-left mode k n p (send-result a))
 
   pub switch-covers : (mode : ControlMode) (k : κ .Known) (s : Switch) → weigh β (switch-want mode s) ≤ switch-left β mode k s
   switch-covers mode k Switch.Starting = omega arith
-  switch-covers mode k (Switch.Remaining which p) = omega arith
-  switch-covers mode k (Switch.Reading which p l q) = omega (arith, ask-covers (ReadRegister 10) l k q)
-  switch-covers mode k (Switch.HoldRemaining p) = omega arith
-  switch-covers mode k (Switch.HoldReading p l q) = omega (arith, ask-covers (ReadRegister 80) l k q)
-  switch-covers mode k (Switch.Clearing c p) = omega (arith, cleared-left mode k c p)
-  switch-covers mode k (Switch.Writing n p w) = omega (arith, write-covers 10 (mode-value mode) k w)
-  switch-covers mode k (Switch.Settling n p) = omega arith
-  switch-covers mode k (Switch.Sleeping n p l) = omega arith
-  switch-covers mode k (Switch.Holding n p) = omega arith
+  switch-covers mode k (Switch.Begun p (Stage.Remaining which)) = omega arith
+  switch-covers mode k (Switch.Begun p (Stage.Reading which l q)) = omega (arith, ask-covers (ReadRegister 10) l k q)
+  switch-covers mode k (Switch.Begun p Stage.HoldRemaining) = omega arith
+  switch-covers mode k (Switch.Begun p (Stage.HoldReading l q)) = omega (arith, ask-covers (ReadRegister 80) l k q)
+  switch-covers mode k (Switch.Begun p (Stage.Clearing c)) = omega (arith, cleared-left mode k c p)
+  switch-covers mode k (Switch.Begun p (Stage.Writing n w)) = omega (arith, write-covers 10 (mode-value mode) k w)
+  switch-covers mode k (Switch.Begun p (Stage.Settling n)) = omega arith
+  switch-covers mode k (Switch.Begun p (Stage.Sleeping n l)) = omega arith
+  switch-covers mode k (Switch.Begun p (Stage.Holding n)) = omega arith
 
   -- ---- a run's machine
 

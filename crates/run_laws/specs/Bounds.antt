@@ -18,7 +18,7 @@ use Rattle.wait.specs.declared.ask.Ask.the-variants.{Opening}
 use Rattle.confirmed_write.specs.Write.{first-try}
 use Rattle.confirmed_write.specs.declared.ack.AckWait.the-variants as AckWait
 use Rattle.fresh_state.specs.declared.store.Store.the-variants.{Asking}
-use Rattle.ensure_mode.specs.declared.Switch.the-variants.{Starting}
+use Rattle.switch_stage.specs.declared.Switch.the-variants.{Starting}
 use Rattle.machine.specs.declared.Machine.{Machine}
 use Rattle.machine.specs.declared.Machine.the-variants.{GetRegister, WriteRegister, RequestFreshState, StoreParameters, EnsureControlMode}
 use Rattle.run_laws.specs.Clock.{unheard, heard, Moving, polls}

@@ -37,17 +37,18 @@ use Rattle.fresh_state.specs.declared.store.Store.{Store}
 use Rattle.fresh_state.specs.declared.store.Store.the-variants as Store
 use Rattle.fresh_state.specs.declared.store.StoreNext.{StoreNext}
 use Rattle.fresh_state.specs.declared.store.StoreNext.the-variants as Stored
-use Rattle.ensure_mode.specs.Switch.{mode-value}
-use Rattle.ensure_mode.specs.declared.ModeRead.{ModeRead}
-use Rattle.ensure_mode.specs.declared.ModeRead.the-variants.{First, Verify}
-use Rattle.ensure_mode.specs.declared.Switch.{Switch}
-use Rattle.ensure_mode.specs.declared.Switch.the-variants as Switch
-use Rattle.ensure_mode.specs.declared.SwitchNext.{SwitchNext}
-use Rattle.ensure_mode.specs.declared.SwitchNext.the-variants as Switched
+use Rattle.switch_stage.specs.Stage.{mode-value}
+use Rattle.switch_stage.specs.declared.ModeRead.{ModeRead}
+use Rattle.switch_stage.specs.declared.ModeRead.the-variants.{First, Verify}
+use Rattle.switch_stage.specs.declared.Stage.the-variants as Stage
+use Rattle.switch_stage.specs.declared.Switch.{Switch}
+use Rattle.switch_stage.specs.declared.Switch.the-variants as Switch
+use Rattle.switch_stage.specs.declared.SwitchNext.{SwitchNext}
+use Rattle.switch_stage.specs.declared.SwitchNext.the-variants as Switched
 use Rattle.machine.specs.declared.Machine.{Machine}
 use Rattle.machine.specs.declared.Machine.the-variants.{GetRegister, WriteRegister, RequestFreshState, StoreParameters, EnsureControlMode}
-use Rattle.machine.specs.declared.Next.{Next}
-use Rattle.machine.specs.declared.Next.the-variants.{Goes, Ends}
+use Rattle.machine_step.specs.declared.Next.{Next}
+use Rattle.machine_step.specs.declared.Next.the-variants.{Goes, Ends}
 use Rattle.run_laws.specs.Clock.{Clocked}
 use Rattle.run_laws.specs.Trace.{Label, label, counted}
 
@@ -183,15 +184,15 @@ module _ {κ : Clocked} (β : Budget κ) where
 
   abbrev pub switch-left : ControlMode → κ .Known → Switch → ℕ
   switch-left mode k Switch.Starting = β .clock + mode-reading + preparing mode
-  switch-left mode k (Switch.Remaining which p) = mode-reading + unfound mode which
-  switch-left mode k (Switch.Reading which p l ask) = ask-left (Message.ReadRegister 10) l k ask + unfound mode which
-  switch-left mode k (Switch.HoldRemaining p) = preparing mode
-  switch-left mode k (Switch.HoldReading p l ask) = ask-left (Message.ReadRegister 80) l k ask + clearing Vel + rounds mode
-  switch-left mode k (Switch.Clearing channel p) = clearing channel + rounds mode
-  switch-left mode k (Switch.Writing n p write) = write-left 10 (mode-value mode) k write + finishing mode + mode-reading + more-rounds mode n
-  switch-left mode k (Switch.Settling n p) = finishing mode + mode-reading + more-rounds mode n
-  switch-left mode k (Switch.Sleeping n p l) = β .sleep + holding mode + mode-reading + more-rounds mode n
-  switch-left mode k (Switch.Holding n p) = holding mode + mode-reading + more-rounds mode n
+  switch-left mode k (Switch.Begun p (Stage.Remaining which)) = mode-reading + unfound mode which
+  switch-left mode k (Switch.Begun p (Stage.Reading which l ask)) = ask-left (Message.ReadRegister 10) l k ask + unfound mode which
+  switch-left mode k (Switch.Begun p Stage.HoldRemaining) = preparing mode
+  switch-left mode k (Switch.Begun p (Stage.HoldReading l ask)) = ask-left (Message.ReadRegister 80) l k ask + clearing Vel + rounds mode
+  switch-left mode k (Switch.Begun p (Stage.Clearing channel)) = clearing channel + rounds mode
+  switch-left mode k (Switch.Begun p (Stage.Writing n write)) = write-left 10 (mode-value mode) k write + finishing mode + mode-reading + more-rounds mode n
+  switch-left mode k (Switch.Begun p (Stage.Settling n)) = finishing mode + mode-reading + more-rounds mode n
+  switch-left mode k (Switch.Begun p (Stage.Sleeping n l)) = β .sleep + holding mode + mode-reading + more-rounds mode n
+  switch-left mode k (Switch.Begun p (Stage.Holding n)) = holding mode + mode-reading + more-rounds mode n
 
   abbrev pub switched-left : ControlMode → κ .Known → SwitchNext → ℕ
   switched-left mode k (Switched.Goes switch) = switch-left mode k switch

@@ -13,10 +13,11 @@ use Rattle.confirmed_write.specs.Ack.{ack-want, ack-step}
 use Rattle.confirmed_write.specs.declared.ack.AckWait.{AckWait}
 use Rattle.confirmed_write.specs.declared.ack.AckNext.{AckNext}
 use Rattle.confirmed_write.specs.declared.ack.AckNext.the-variants as Ack
-use Rattle.machine.specs.Machine.{machine-want, machine-step}
+use Rattle.machine.specs.Machine.{machine-want}
+use Rattle.machine_step.specs.Step.{machine-step}
 use Rattle.machine.specs.declared.Machine.{Machine}
-use Rattle.machine.specs.declared.Next.{Next}
-use Rattle.machine.specs.declared.Next.the-variants as Next
+use Rattle.machine_step.specs.declared.Next.{Next}
+use Rattle.machine_step.specs.declared.Next.the-variants as Next
 use Rattle.run_laws.specs.Trace.{Given, System}
 
 -- a wait of a length, whatever its looks find: it goes on while they find nothing

@@ -13,8 +13,8 @@ use Rattle.runs.specs.declared.Told.the-variants.{Refused}
 use Rattle.runs.specs.declared.Turn.{Turn}
 use Rattle.runs.proofs.Effects.{wants-follow, untouched}
 use Rattle.run_starts.specs.Start.{opened, first-want, start-by, with-opened, begin}
-use Rattle.run_starts.specs.declared.Start.{Start}
-use Rattle.run_starts.specs.declared.Start.the-variants as Start
+use Rattle.start_machine.specs.declared.Start.{Start}
+use Rattle.start_machine.specs.declared.Start.the-variants as Start
 
 -- it is refused, or opens a run where none is open
 

@@ -1,29 +1,12 @@
 // The starts of the runs. A start takes no reading; it is told the first want.
 ghost use mathlib.Core.Path.{_≡_};
 ghost use Rattle.run_starts.specs.Start as Spec;
-use confirmed_write::first_try;
-use control_mode::ModeCheck;
-use control_mode::control_mode;
-use ensure_mode::Switch;
 use float::F32Bits;
-use fresh_state::store::Store;
-use machine::Machine;
 use machine::machine_want;
-use motor_core::error::MODE;
-use motor_core::error::READ_ONLY;
-use motor_core::error::REGISTER;
 use motor_core::error::RUN_OPEN;
-use motor_core::error::TIMEOUT;
-use motor_core::error::VALUE_TYPE;
 use motor_core::time::Duration;
-use motor_core::time::accepts_timeout;
-use registers::RegisterAccess;
 use registers::RegisterDataType;
-use registers::RegisterInfo;
 use registers::RegisterValue;
-use registers::is_known;
-use registers::is_of_type;
-use registers::register_info;
 use registers::value_from_bits;
 use runs::Told;
 use runs::Turn;
@@ -32,13 +15,12 @@ use session::Heard;
 use session::Phase;
 use session::Run;
 use session::Session;
-use wait::ask::Ask;
-
-// A run's machine at its beginning, or why its arguments are refused.
-pub enum Start {
-    Accepted(Machine),
-    Refused(u8),
-}
+use start_machine::Start;
+use start_machine::fresh_state_start;
+use start_machine::get_start;
+use start_machine::mode_start;
+use start_machine::store_start;
+use start_machine::write_start;
 
 // The run after a start, and what the start is told.
 struct Opened {
@@ -90,71 +72,6 @@ fn begin(session: Session, start: Start) -> Turn
     Turn { session, told }
 }
 
-fn get_start(data_type: RegisterDataType, rid: u8, timeout: Duration) -> Start
-    ensures { λ r. ⌜ r ≡ Spec.get-start «data_type» rid timeout ⌝ }
-{
-    if !is_known(rid) {
-        return Start::Refused(REGISTER);
-    }
-    if !accepts_timeout(timeout) {
-        return Start::Refused(TIMEOUT);
-    }
-    Start::Accepted(Machine::GetRegister(data_type, rid, timeout, Ask::Opening))
-}
-
-fn write_start(rid: u8, value: RegisterValue) -> Start
-    ensures { λ r. ⌜ r ≡ Spec.write-start rid value ⌝ }
-{
-    let info = register_info(rid);
-    match info {
-        RegisterInfo::Unknown => Start::Refused(REGISTER),
-        RegisterInfo::Known(access, data_type) => write_known(access, data_type, rid, value),
-    }
-}
-
-fn write_known(
-    access: RegisterAccess,
-    data_type: RegisterDataType,
-    rid: u8,
-    value: RegisterValue,
-) -> Start
-    ensures { λ r. ⌜ r ≡ Spec.write-known access «data_type» rid value ⌝ }
-{
-    match access {
-        RegisterAccess::ReadOnly => Start::Refused(READ_ONLY),
-        RegisterAccess::ReadWrite => {
-            if !is_of_type(value, data_type) {
-                return Start::Refused(VALUE_TYPE);
-            }
-            Start::Accepted(Machine::WriteRegister(rid, value, first_try()))
-        }
-    }
-}
-
-fn fresh_state_start(timeout: Duration) -> Start
-    ensures { λ r. ⌜ r ≡ Spec.fresh-state-start timeout ⌝ }
-{
-    if !accepts_timeout(timeout) {
-        return Start::Refused(TIMEOUT);
-    }
-    Start::Accepted(Machine::RequestFreshState(timeout, Ask::Opening))
-}
-
-fn mode_start(mode: u32, timeout: Duration) -> Start
-    ensures { λ r. ⌜ r ≡ Spec.mode-start mode timeout ⌝ }
-{
-    let check = control_mode(mode);
-    match check {
-        ModeCheck::Unknown => Start::Refused(MODE),
-        ModeCheck::Known(known) => {
-            if !accepts_timeout(timeout) {
-                return Start::Refused(TIMEOUT);
-            }
-            Start::Accepted(Machine::EnsureControlMode(known, timeout, Switch::Starting))
-        }
-    }
-}
-
 // Reads a register that holds a whole number; refused with 8, 4 or 7.
 pub fn get_register_u32(session: Session, rid: u8, timeout: Duration) -> Turn
     ensures { λ r. ⌜ r ≡ Spec.get-register-u32 session rid timeout ⌝ }
@@ -197,10 +114,7 @@ pub fn request_fresh_state(session: Session, timeout: Duration) -> Turn
 pub fn store_parameters(session: Session) -> Turn
     ensures { λ r. ⌜ r ≡ Spec.store-parameters session ⌝ }
 {
-    begin(
-        session,
-        Start::Accepted(Machine::StoreParameters(Store::Asking(Ask::Opening))),
-    )
+    begin(session, store_start())
 }
 
 // Switches the motor to a control mode, 1 to 4; refused with 8, 10 or 7.

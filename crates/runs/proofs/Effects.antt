@@ -12,10 +12,11 @@ use Rattle.want.specs.declared.Answer.{Answer}
 use Rattle.want.specs.declared.Answer.the-variants.{Reading, Sent, SendTimeout, SendFailed, Slept}
 use Rattle.want.specs.declared.Want.{Want}
 use Rattle.want.specs.declared.Want.the-variants.{Clock, Send, Sleep}
-use Rattle.machine.specs.Machine.{machine-want, machine-step}
+use Rattle.machine.specs.Machine.{machine-want}
+use Rattle.machine_step.specs.Step.{machine-step}
 use Rattle.machine.specs.declared.Machine.{Machine}
-use Rattle.machine.specs.declared.Next.{Next}
-use Rattle.machine.specs.declared.Next.the-variants.{Goes, Ends}
+use Rattle.machine_step.specs.declared.Next.{Next}
+use Rattle.machine_step.specs.declared.Next.the-variants.{Goes, Ends}
 use Rattle.session.specs.Session.{closed, with-last}
 use Rattle.session.specs.declared.Heard.{Heard}
 use Rattle.session.specs.declared.Phase.{Phase}

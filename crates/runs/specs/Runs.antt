@@ -15,10 +15,11 @@ use Rattle.want.specs.declared.Answer.{Answer}
 use Rattle.want.specs.declared.Answer.the-variants.{Reading, Sent, SendTimeout, SendFailed, Slept}
 use Rattle.want.specs.declared.Want.{Want}
 use Rattle.want.specs.declared.Want.the-variants.{Clock, Send, Sleep}
-use Rattle.machine.specs.Machine.{machine-want, machine-place, machine-step}
+use Rattle.machine.specs.Machine.{machine-want, machine-place}
+use Rattle.machine_step.specs.Step.{machine-step}
 use Rattle.machine.specs.declared.Machine.{Machine}
-use Rattle.machine.specs.declared.Next.{Next}
-use Rattle.machine.specs.declared.Next.the-variants.{Goes, Ends}
+use Rattle.machine_step.specs.declared.Next.{Next}
+use Rattle.machine_step.specs.declared.Next.the-variants.{Goes, Ends}
 use Rattle.cache.specs.declared.Place.{Place}
 use Rattle.cache.specs.declared.Place.the-variants.{Nowhere, Reply, Ack}
 use Rattle.session.specs.declared.Heard.{Heard}

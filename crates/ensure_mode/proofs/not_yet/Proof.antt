@@ -3,9 +3,10 @@ use mathlib.Core.Path.{_≡_, sym, ap, _∙_}
 use Prim.Native.Nat.{ℕ, suc, _-_}
 use native.Mathlib.Omega.{arith}
 use Rattle.control_mode.specs.declared.ControlMode.{ControlMode}
-use Rattle.ensure_mode.specs.Switch.{write-mode, not-yet}
-use Rattle.ensure_mode.specs.declared.Progress.{Progress}
-use Rattle.ensure_mode.specs.declared.ModeRead.the-variants.{Verify}
+use Rattle.prepare_switch.specs.Prepare.{write-mode}
+use Rattle.ensure_mode.specs.Switch.{not-yet}
+use Rattle.switch_stage.specs.declared.Progress.{Progress}
+use Rattle.switch_stage.specs.declared.ModeRead.the-variants.{Verify}
 use borrow.Author.Needs.{needs}
 use Rattle.ensure_mode.proofs.not_yet.Statement.{statement}
 use Rattle.ensure_mode.proofs.not_yet.Tie as tie

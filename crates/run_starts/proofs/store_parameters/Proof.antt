@@ -1,15 +1,19 @@
 -- `run_starts::store_parameters` meets its contract. Assumes nothing.
-use Rattle.run_starts.specs.Start.{store-parameters}
+use mathlib.Core.Path.{ap, _∙_}
+use Rattle.run_starts.specs.Start.{begin, store-parameters}
 use borrow.Author.Needs.{needs}
 use Rattle.run_starts.proofs.store_parameters.Statement.{statement}
 use Rattle.run_starts.proofs.store_parameters.Tie as tie
+
+store-start-requires : tie.Need-store-start-requires
+store-start-requires c κs = search needs
 
 begin-requires : tie.Need-begin-requires
 begin-requires c κs = search needs
 
 returns : tie.Need-returns
 unfolding store-parameters
-returns c = c .begin .ensures
+returns c = c .begin .ensures ∙ ap (begin (c .before .before .args .session)) (c .before .store-start .ensures)
 
 pub store-parameters-spec : {M : Type 1} → statement M
-store-parameters-spec = tie.close (tie.spec begin-requires returns)
+store-parameters-spec = tie.close (tie.spec store-start-requires begin-requires returns)

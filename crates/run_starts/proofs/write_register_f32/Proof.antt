@@ -1,6 +1,7 @@
 -- `run_starts::write_register_f32` meets its contract. Assumes nothing.
 use mathlib.Core.Path.{ap, _∙_}
-use Rattle.run_starts.specs.Start.{write-start, begin, write-register-f32}
+use Rattle.start_machine.specs.Start.{write-start}
+use Rattle.run_starts.specs.Start.{begin, write-register-f32}
 use borrow.Author.Needs.{needs}
 use Rattle.run_starts.proofs.write_register_f32.Statement.{statement}
 use Rattle.run_starts.proofs.write_register_f32.Tie as tie
