@@ -1,17 +1,18 @@
-// The lines of the input, however it is cut by the reads, and the output, which is kept until there
-// is much of it.
+// The lines of the input, however it is cut by the reads, and the output, which is written after each
+// read, or once there is much of it.
 use crate::answer;
 use crate::replies::put_line;
 use crate::session_text::put_state;
 use crate::sessions;
 use crate::sessions::State;
 use crate::sessions::unstarted;
+use libc::STDERR_FILENO;
 use libc::STDIN_FILENO;
 use libc::STDOUT_FILENO;
 use script::Call;
 use script::MAX_LINE;
 use script::calls;
-ghost use Prim.Native.Nat.{_+_, _≤_};
+ghost use Prim.Native.Nat.{_-_, _≤_};
 ghost use lib.ListN.{length};
 
 // The output is written once it has so many bytes. The rest of its buffer has room for any answer;
@@ -34,8 +35,9 @@ struct Unfinished {
     is_long: bool,
 }
 
-// Reads and answers to the end of the input. A proved loop has to end, and nothing says that the
-// input does, so the turns are counted down from a number that no run uses up.
+// Reads and answers to the end of the input, or until an answer cannot be written. A proved loop has
+// to end, and nothing says that the input does, so the turns are counted down from a number that no
+// run uses up.
 pub(crate) fn run(input: &mut [u8], output: &mut [u8]) {
     let mut held = 0;
     let mut is_long = false;
@@ -51,13 +53,33 @@ pub(crate) fn run(input: &mut [u8], output: &mut [u8]) {
         let rest = keep_rest(input, done.from, end, done.is_long);
         let after = done.state;
         state = after;
-        to = done.to;
         held = rest.held;
         is_long = rest.is_long;
-        turns -= 1;
+        to = rest_after(output, done.to);
+        turns = turns_left(turns, to);
     }
     let end = last_line(input, held, is_long, state, output, to);
-    write_out(output, end);
+    finish(output, end);
+}
+
+// None once answers could not be written.
+fn turns_left(turns: u64, unwritten: usize) -> u64
+    ensures { λ r. ⌜ r ≤ turns - 1 ⌝ }
+{
+    if unwritten > 0 {
+        return 0;
+    }
+    if turns > 0 { turns - 1 } else { 0 }
+}
+
+fn finish(output: &[u8], to: usize) {
+    if rest_after(output, to) > 0 {
+        complain(b"drive: the output cannot be written\n");
+    }
+}
+
+fn complain(line: &[u8]) {
+    io::write_all(STDERR_FILENO, line);
 }
 
 // Reads once, after the bytes that are held, and answers where the bytes end.
@@ -68,6 +90,9 @@ fn read_after(input: &mut [u8], held: usize) -> usize
         return 0;
     }
     let got = libc::read(STDIN_FILENO, &mut input[held..]);
+    if got < 0 {
+        complain(b"drive: the input cannot be read\n");
+    }
     let n = io::count(got, &input[held..]);
     held + n
 }
@@ -186,12 +211,15 @@ fn write_if_full(output: &[u8], to: usize) -> usize {
     if to < FULL {
         return to;
     }
-    write_out(output, to);
-    0
+    rest_after(output, to)
 }
 
-fn write_out(output: &[u8], to: usize) {
+// Writes out what has gathered, and answers what is left of it: nothing, or all where a write failed.
+fn rest_after(output: &[u8], to: usize) -> usize {
     if to <= output.len() {
-        io::write_all(STDOUT_FILENO, &output[0..to]);
+        if io::write_all(STDOUT_FILENO, &output[0..to]) {
+            return 0;
+        }
     }
+    to
 }

@@ -84,7 +84,12 @@ fn answered(line: Line) -> Line
         Told::WantSend(_, data) => {
             let taking = process_feedback_frame(session, motor_frame(mode, data), now);
             let heard = taking.session;
-            told(answer_run(heard, Answer::Sent), mode_after(mode, data), now, sum)
+            told(
+                answer_run(heard, Answer::Sent),
+                mode_after(mode, data),
+                now,
+                sum,
+            )
         }
         Told::WantSleep(length) => {
             let later = Instant(std::num::wrapping_add_u64(now.0, length.0));

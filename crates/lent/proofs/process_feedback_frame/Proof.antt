@@ -129,6 +129,23 @@ starts = seq (call #frame-place (copy (place 2 []) ∷ []) (place 4 [])) loads
 abbrev slots-type : Ty
 slots-type = tyArray S′.mir 82
 
+-- where the caches lie in a session: behind what was heard, and behind 82 slots of 24 bytes
+abbrev replies-at : ℕ
+replies-at = 104
+
+abbrev acks-at : ℕ
+acks-at = 2072
+
+-- and where slots and outcome lie in the parts
+abbrev reply-at : ℕ
+reply-at = 104
+
+abbrev ack-at : ℕ
+ack-at = 128
+
+abbrev outcome-at : ℕ
+outcome-at = 152
+
 abbrev session-fields : Tys
 session-fields = tcons D′.mir (tcons slots-type (tcons slots-type (tcons R′.mir tnil)))
 
@@ -298,7 +315,7 @@ module _ {M : Type 1} (𝓤 : URA M) (H : Heap 𝓤) (A : Atoms 𝓤) (W : Given
 
       run-ends : (k : ℕ) (bel : k < 82) (p : Parts) (isp : Is U.the-row p (pv p ∷ [])) (e : taken k p ≡ take-frame h c t) → Sq W (Stored (only (tv (put-back h k p))) k p) (runs C Λ E ends (atRet E Post))
       run-ends k bel p isp e =
-          assigns ! (of-opd ! (load ! (from ! (fld ! {τ = O′.mir} {d = 152} refl (stop !))) (look-in ! 24 (sub ! {τs = parts-fields} 3 {τ = O′.mir} {d = 152} refl (whole !))))) (from ! (stop !)) (init ! 40 refl (EL.lawful O.the-type O′.the-laws 𝓤 H A W tt .typed (p .outcome) _ (LL.owed U.the-type U′.the-laws p _ isp .1 .1 .1 .0) .0)) $
+          assigns ! (of-opd ! (load ! (from ! (fld ! {τ = O′.mir} {d = outcome-at} refl (stop !))) (look-in ! 24 (sub ! {τs = parts-fields} 3 {τ = O′.mir} {d = outcome-at} refl (whole !))))) (from ! (stop !)) (init ! 40 refl (EL.lawful O.the-type O′.the-laws 𝓤 H A W tt .typed (p .outcome) _ (LL.owed U.the-type U′.the-laws p _ isp .1 .1 .1 .0) .0)) $
           use1 W (‵ (cellAt fullShare (T.the-row .mir) (tv (put-back h k p)) b o)) (W .laws .at-raw fullShare T′.mir b o (only (tv (put-back h k p)))) $
           owned ! T.the-row (Is T.the-row) (LL.makes T.the-type T′.the-plain 𝓤 H A) (put-back h k p) (tv (put-back h k p)) (made h _ was k p _ isp) $ move ! (1 ∷ 0 ∷ []) $
           closes ! tt T.the-row (put-back h k p) (tv (put-back h k p)) b o $
@@ -310,9 +327,9 @@ module _ {M : Type 1} (𝓤 : URA M) (H : Heap 𝓤) (A : Atoms 𝓤) (W : Given
       run-stores-ack : (k : ℕ) (bel : k < 82) (p : Parts) (isp : Is U.the-row p (pv p ∷ [])) (e : taken k p ≡ take-frame h c t) → Sq W (Stored (mach (dv (p .heard)) (map sv (set (h .replies) k (p .reply))) (map sv (h .acks)) h) k p) (runs C Λ E stores-ack (atRet E Post))
       run-stores-ack k bel p isp e =
           assigns ! (bin ! (load ! (from ! (stop !)) (look ! 32 refl)) (lit ! tt) (record { fits = times-fits k bel })) (from ! (stop !)) (init ! 22 refl (tt, record { fits = times-fits k bel })) $
-          assigns ! (addr ! (from ! (hop ! (look ! 38 refl) (fld ! {τ = slots-type} {d = 2072} refl (stop !))))) (from ! (stop !)) (init ! 6 refl (tt, tt)) $
-          assigns ! (bin ! (load ! (from ! (stop !)) (look ! 6 refl)) (load ! (from ! (stop !)) (look ! 22 refl)) tt) (from ! (stop !)) (init ! 4 refl (tt, tt)) $ rewrite ! 4 (λ (p : ℕ). ‵ (fat fullShare tyPtr l₁₈ 0 (vptr b p))) (sym (place-is 24 (o + 2072) k)) refl $
-          assigns ! (of-opd ! (load ! (from ! (fld ! {τ = S′.mir} {d = 128} refl (stop !))) (look-in ! 24 (sub ! {τs = parts-fields} 2 {τ = S′.mir} {d = 128} refl (whole !))))) (from ! (hop ! (look ! 4 refl) (stop !))) (store-in ! 0 (elem-of ! sv (h .acks) k empty (within (h .acks) _ (acks-are h _ was) k bel) (slots-len (h .acks) _ (acks-are h _ was)) (sub ! {τs = session-fields} 2 {τ = slots-type} {d = 2072} refl (whole !))) (LL.lawful S.the-type S′.the-laws 𝓤 H A W .typed (p .ack) _ (LL.owed U.the-type U′.the-laws p _ isp .1 .1 .0) .0)) $
+          assigns ! (addr ! (from ! (hop ! (look ! 38 refl) (fld ! {τ = slots-type} {d = acks-at} refl (stop !))))) (from ! (stop !)) (init ! 6 refl (tt, tt)) $
+          assigns ! (bin ! (load ! (from ! (stop !)) (look ! 6 refl)) (load ! (from ! (stop !)) (look ! 22 refl)) tt) (from ! (stop !)) (init ! 4 refl (tt, tt)) $ rewrite ! 4 (λ (p : ℕ). ‵ (fat fullShare tyPtr l₁₈ 0 (vptr b p))) (sym (place-is 24 (o + acks-at) k)) refl $
+          assigns ! (of-opd ! (load ! (from ! (fld ! {τ = S′.mir} {d = ack-at} refl (stop !))) (look-in ! 24 (sub ! {τs = parts-fields} 2 {τ = S′.mir} {d = ack-at} refl (whole !))))) (from ! (hop ! (look ! 4 refl) (stop !))) (store-in ! 0 (elem-of ! sv (h .acks) k empty (within (h .acks) _ (acks-are h _ was) k bel) (slots-len (h .acks) _ (acks-are h _ was)) (sub ! {τs = session-fields} 2 {τ = slots-type} {d = acks-at} refl (whole !))) (LL.lawful S.the-type S′.the-laws 𝓤 H A W .typed (p .ack) _ (LL.owed U.the-type U′.the-laws p _ isp .1 .1 .0) .0)) $
           rewrite ! 0 (λ (ws : List Val). ‵ (fat fullShare T′.mir b o (mach (dv (p .heard)) (map sv (set (h .replies) k (p .reply))) ws h))) (sym (map-set sv (h .acks) k (p .ack))) refl $
           forget ! 22 refl $ forget ! 6 refl $ forget ! 4 refl $ run-ends k bel p isp e
 
@@ -320,9 +337,9 @@ module _ {M : Type 1} (𝓤 : URA M) (H : Heap 𝓤) (A : Atoms 𝓤) (W : Given
       run-stores k bel p isp e =
           assigns ! (of-opd ! (load ! (from ! (fld ! {τ = D′.mir} {d = 0} refl (stop !))) (look-in ! 24 (sub ! {τs = parts-fields} 0 {τ = D′.mir} {d = 0} refl (whole !))))) (from ! (hop ! (look ! 38 refl) (fld ! {τ = D′.mir} {d = 0} refl (stop !)))) (store-in ! 0 (sub ! {τs = session-fields} 0 {τ = D′.mir} {d = 0} refl (whole !)) (LL.lawful D.the-type D′.the-laws 𝓤 H A W .typed (p .heard) _ (LL.owed U.the-type U′.the-laws p _ isp .0) .0)) $
           assigns ! (bin ! (load ! (from ! (stop !)) (look ! 32 refl)) (lit ! tt) (record { fits = times-fits k bel })) (from ! (stop !)) (init ! 22 refl (tt, record { fits = times-fits k bel })) $
-          assigns ! (addr ! (from ! (hop ! (look ! 38 refl) (fld ! {τ = slots-type} {d = 104} refl (stop !))))) (from ! (stop !)) (init ! 10 refl (tt, tt)) $
-          assigns ! (bin ! (load ! (from ! (stop !)) (look ! 10 refl)) (load ! (from ! (stop !)) (look ! 22 refl)) tt) (from ! (stop !)) (init ! 8 refl (tt, tt)) $ rewrite ! 8 (λ (p : ℕ). ‵ (fat fullShare tyPtr l₁₆ 0 (vptr b p))) (sym (place-is 24 (o + 104) k)) refl $
-          assigns ! (of-opd ! (load ! (from ! (fld ! {τ = S′.mir} {d = 104} refl (stop !))) (look-in ! 24 (sub ! {τs = parts-fields} 1 {τ = S′.mir} {d = 104} refl (whole !))))) (from ! (hop ! (look ! 8 refl) (stop !))) (store-in ! 0 (elem-of ! sv (h .replies) k empty (within (h .replies) _ (replies-are h _ was) k bel) (slots-len (h .replies) _ (replies-are h _ was)) (sub ! {τs = session-fields} 1 {τ = slots-type} {d = 104} refl (whole !))) (LL.lawful S.the-type S′.the-laws 𝓤 H A W .typed (p .reply) _ (LL.owed U.the-type U′.the-laws p _ isp .1 .0) .0)) $
+          assigns ! (addr ! (from ! (hop ! (look ! 38 refl) (fld ! {τ = slots-type} {d = replies-at} refl (stop !))))) (from ! (stop !)) (init ! 10 refl (tt, tt)) $
+          assigns ! (bin ! (load ! (from ! (stop !)) (look ! 10 refl)) (load ! (from ! (stop !)) (look ! 22 refl)) tt) (from ! (stop !)) (init ! 8 refl (tt, tt)) $ rewrite ! 8 (λ (p : ℕ). ‵ (fat fullShare tyPtr l₁₆ 0 (vptr b p))) (sym (place-is 24 (o + replies-at) k)) refl $
+          assigns ! (of-opd ! (load ! (from ! (fld ! {τ = S′.mir} {d = reply-at} refl (stop !))) (look-in ! 24 (sub ! {τs = parts-fields} 1 {τ = S′.mir} {d = reply-at} refl (whole !))))) (from ! (hop ! (look ! 8 refl) (stop !))) (store-in ! 0 (elem-of ! sv (h .replies) k empty (within (h .replies) _ (replies-are h _ was) k bel) (slots-len (h .replies) _ (replies-are h _ was)) (sub ! {τs = session-fields} 1 {τ = slots-type} {d = replies-at} refl (whole !))) (LL.lawful S.the-type S′.the-laws 𝓤 H A W .typed (p .reply) _ (LL.owed U.the-type U′.the-laws p _ isp .1 .0) .0)) $
           rewrite ! 0 (λ (us : List Val). ‵ (fat fullShare T′.mir b o (mach (dv (p .heard)) us (map sv (h .acks)) h))) (sym (map-set sv (h .replies) k (p .reply))) refl $
           forget ! 22 refl $ forget ! 10 refl $ forget ! 8 refl $ run-stores-ack k bel p isp e
 
@@ -339,9 +356,9 @@ module _ {M : Type 1} (𝓤 : URA M) (H : Heap 𝓤) (A : Atoms 𝓤) (W : Given
       run-loads-ack : (k : ℕ) (bel : k < 82) (ek : k ≡ frame-place c) → Sq W (Loaded (bare S′.mir l₇) (full S′.mir l₆ (sv (reply k))) (full D′.mir l₅ (dv (h .heard))) (full (tyInt w64) l₄ (vint w64 k))) (runs C Λ E loads-ack (atRet E Post))
       run-loads-ack k bel ek =
           assigns ! (bin ! (load ! (from ! (stop !)) (look ! 32 refl)) (lit ! tt) (record { fits = times-fits k bel })) (from ! (stop !)) (init ! 22 refl (tt, record { fits = times-fits k bel })) $
-          assigns ! (addr ! (from ! (hop ! (look ! 38 refl) (fld ! {τ = slots-type} {d = 2072} refl (stop !))))) (from ! (stop !)) (init ! 14 refl (tt, tt)) $
-          assigns ! (bin ! (load ! (from ! (stop !)) (look ! 14 refl)) (load ! (from ! (stop !)) (look ! 22 refl)) tt) (from ! (stop !)) (init ! 12 refl (tt, tt)) $ rewrite ! 12 (λ (p : ℕ). ‵ (fat fullShare tyPtr l₁₄ 0 (vptr b p))) (sym (place-is 24 (o + 2072) k)) refl $
-          assigns ! (of-opd ! (load ! (from ! (hop ! (look ! 12 refl) (stop !))) (look-in ! 0 (elem-of ! sv (h .acks) k empty (within (h .acks) _ (acks-are h _ was) k bel) (slots-len (h .acks) _ (acks-are h _ was)) (sub ! {τs = session-fields} 2 {τ = slots-type} {d = 2072} refl (whole !)))))) (from ! (stop !)) (init ! 16 refl (LL.lawful S.the-type S′.the-laws 𝓤 H A W .typed (ack k) _ (slot-is (h .acks) _ (acks-are h _ was) k bel) .0)) $
+          assigns ! (addr ! (from ! (hop ! (look ! 38 refl) (fld ! {τ = slots-type} {d = acks-at} refl (stop !))))) (from ! (stop !)) (init ! 14 refl (tt, tt)) $
+          assigns ! (bin ! (load ! (from ! (stop !)) (look ! 14 refl)) (load ! (from ! (stop !)) (look ! 22 refl)) tt) (from ! (stop !)) (init ! 12 refl (tt, tt)) $ rewrite ! 12 (λ (p : ℕ). ‵ (fat fullShare tyPtr l₁₄ 0 (vptr b p))) (sym (place-is 24 (o + acks-at) k)) refl $
+          assigns ! (of-opd ! (load ! (from ! (hop ! (look ! 12 refl) (stop !))) (look-in ! 0 (elem-of ! sv (h .acks) k empty (within (h .acks) _ (acks-are h _ was) k bel) (slots-len (h .acks) _ (acks-are h _ was)) (sub ! {τs = session-fields} 2 {τ = slots-type} {d = acks-at} refl (whole !)))))) (from ! (stop !)) (init ! 16 refl (LL.lawful S.the-type S′.the-laws 𝓤 H A W .typed (ack k) _ (slot-is (h .acks) _ (acks-are h _ was) k bel) .0)) $
           assigns ! (of-opd ! (load ! (from ! (stop !)) (look ! 16 refl))) (from ! (stop !)) (init ! 26 refl (LL.lawful S.the-type S′.the-laws 𝓤 H A W .typed (ack k) _ (slot-is (h .acks) _ (acks-are h _ was) k bel) .0)) $
           forget ! 22 refl $ forget ! 16 refl $ forget ! 14 refl $ forget ! 12 refl $ run-steps k bel ek
 
@@ -349,9 +366,9 @@ module _ {M : Type 1} (𝓤 : URA M) (H : Heap 𝓤) (A : Atoms 𝓤) (W : Given
       run-loads k bel ek =
           assigns ! (of-opd ! (load ! (from ! (hop ! (look ! 38 refl) (fld ! {τ = D′.mir} {d = 0} refl (stop !)))) (look-in ! 0 (sub ! {τs = session-fields} 0 {τ = D′.mir} {d = 0} refl (whole !))))) (from ! (stop !)) (init ! 30 refl (LL.lawful D.the-type D′.the-laws 𝓤 H A W .typed (h .heard) _ (heard-is h _ was) .0)) $
           assigns ! (bin ! (load ! (from ! (stop !)) (look ! 32 refl)) (lit ! tt) (record { fits = times-fits k bel })) (from ! (stop !)) (init ! 22 refl (tt, record { fits = times-fits k bel })) $
-          assigns ! (addr ! (from ! (hop ! (look ! 38 refl) (fld ! {τ = slots-type} {d = 104} refl (stop !))))) (from ! (stop !)) (init ! 20 refl (tt, tt)) $
-          assigns ! (bin ! (load ! (from ! (stop !)) (look ! 20 refl)) (load ! (from ! (stop !)) (look ! 22 refl)) tt) (from ! (stop !)) (init ! 18 refl (tt, tt)) $ rewrite ! 18 (λ (p : ℕ). ‵ (fat fullShare tyPtr l₁₁ 0 (vptr b p))) (sym (place-is 24 (o + 104) k)) refl $
-          assigns ! (of-opd ! (load ! (from ! (hop ! (look ! 18 refl) (stop !))) (look-in ! 0 (elem-of ! sv (h .replies) k empty (within (h .replies) _ (replies-are h _ was) k bel) (slots-len (h .replies) _ (replies-are h _ was)) (sub ! {τs = session-fields} 1 {τ = slots-type} {d = 104} refl (whole !)))))) (from ! (stop !)) (init ! 16 refl (LL.lawful S.the-type S′.the-laws 𝓤 H A W .typed (reply k) _ (slot-is (h .replies) _ (replies-are h _ was) k bel) .0)) $
+          assigns ! (addr ! (from ! (hop ! (look ! 38 refl) (fld ! {τ = slots-type} {d = replies-at} refl (stop !))))) (from ! (stop !)) (init ! 20 refl (tt, tt)) $
+          assigns ! (bin ! (load ! (from ! (stop !)) (look ! 20 refl)) (load ! (from ! (stop !)) (look ! 22 refl)) tt) (from ! (stop !)) (init ! 18 refl (tt, tt)) $ rewrite ! 18 (λ (p : ℕ). ‵ (fat fullShare tyPtr l₁₁ 0 (vptr b p))) (sym (place-is 24 (o + replies-at) k)) refl $
+          assigns ! (of-opd ! (load ! (from ! (hop ! (look ! 18 refl) (stop !))) (look-in ! 0 (elem-of ! sv (h .replies) k empty (within (h .replies) _ (replies-are h _ was) k bel) (slots-len (h .replies) _ (replies-are h _ was)) (sub ! {τs = session-fields} 1 {τ = slots-type} {d = replies-at} refl (whole !)))))) (from ! (stop !)) (init ! 16 refl (LL.lawful S.the-type S′.the-laws 𝓤 H A W .typed (reply k) _ (slot-is (h .replies) _ (replies-are h _ was) k bel) .0)) $
           assigns ! (of-opd ! (load ! (from ! (stop !)) (look ! 16 refl))) (from ! (stop !)) (init ! 28 refl (LL.lawful S.the-type S′.the-laws 𝓤 H A W .typed (reply k) _ (slot-is (h .replies) _ (replies-are h _ was) k bel) .0)) $
           forget ! 22 refl $ forget ! 20 refl $ forget ! 18 refl $ forget ! 16 refl $ run-loads-ack k bel ek
 

@@ -38,11 +38,14 @@ whole-lines-requires c κs = search needs
 keep-rest-requires : tie.Need-keep-rest-requires Inv-loop μ-loop
 keep-rest-requires c κs = search needs
 
-sub-turns : tie.Need-sub-turns Inv-loop μ-loop
-sub-turns c = search needs
+rest-after-requires : tie.Need-rest-after-requires Inv-loop μ-loop
+rest-after-requires c κs = search needs
+
+turns-left-requires : tie.Need-turns-left-requires Inv-loop μ-loop
+turns-left-requires c κs = search needs
 
 loop-less : tie.Need-loop-less Inv-loop μ-loop
-loop-less c = search needs
+loop-less c = omega arith
 
 loop-again : tie.Need-loop-again Inv-loop μ-loop
 loop-again c = search needs
@@ -50,8 +53,8 @@ loop-again c = search needs
 last-line-requires : tie.Need-last-line-requires Inv-loop μ-loop
 last-line-requires c κs = search needs
 
-write-out-requires : tie.Need-write-out-requires Inv-loop μ-loop
-write-out-requires c κs = search needs
+finish-requires : tie.Need-finish-requires Inv-loop μ-loop
+finish-requires c κs = search needs
 
 same-length : tie.Need-same-length Inv-loop μ-loop
 same-length c =
@@ -80,11 +83,12 @@ run-spec =
     part-whole-lines-end
     whole-lines-requires
     keep-rest-requires
-    sub-turns
+    rest-after-requires
+    turns-left-requires
     loop-less
     loop-again
     last-line-requires
-    write-out-requires
+    finish-requires
     same-length
     same-length-2
     returns)
