@@ -1,3 +1,3 @@
 pub mod Classes
-pub mod KnownBits
+pub mod RegisterBits
 pub mod OfRegister

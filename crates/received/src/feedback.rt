@@ -1,9 +1,9 @@
 // What a received frame says: its class, the feedback in it, or a register and its value.
 ghost use mathlib.Core.Path.{_≡_};
-ghost use Prim.Native.Nat.{_+_, _*_, _^_, _<_};
-ghost use mathlib.Core.Bool.{true, cond, _&&_, _||_};
+ghost use Prim.Native.Nat.{_+_, _*_, _/_, _%_, _^_, _<_};
+ghost use mathlib.Core.Bool.{cond, _&&_, _||_};
 ghost use lib.Dec.{leb, ltb, eqb};
-ghost use Rattle.registers.specs.Registers.{known};
+ghost use Rattle.registers.specs.Registers.{known, data-type-of};
 ghost use Rattle.float.specs.Arithmetic.{float};
 ghost use Rattle.frame.specs.Codes.{uint-to-float, bits-in};
 ghost use Rattle.received.specs.Received as Spec;
@@ -11,7 +11,7 @@ use frame::Width;
 use motor_core::bus::CanFrame;
 use motor_core::model::LimitCheck;
 use motor_core::model::PvTLimits;
-use registers::RegisterInfo;
+use registers::RegisterDataType;
 use registers::RegisterValue;
 
 pub enum FrameClass {
@@ -71,25 +71,48 @@ fn marks_register(d1: u8, d2: u8) -> bool
     d1 <= 0x0f && ((d2 == 0x33) | (d2 == 0x55))
 }
 
-// The registers that are known, a bit each, 64 to a word: those below 64, those from 64 to 127, and none beyond.
-fn known_word(rid: u8) -> u64
-    ensures { λ r. ⌜ r ≡ cond (ltb rid 64) 0xf9fc_001f_ffff_ffff (cond (ltb rid 128) 0x3_0003 0) ⌝ }
+// The registers that are known, a bit each: those below 64, and those from 64 on.
+const KNOWN_LOW: u64 = 0xf9fc_001f_ffff_ffff;
+
+const KNOWN_HIGH: u64 = 0x3_0003;
+
+// Those that hold a whole number. From 64 on there are none.
+const WHOLE_NUMBER: u64 = 0x18_0001_e780;
+
+fn bits_about(low: u64, high: u64, rid: u8) -> u64
+    ensures { λ r. ⌜ r ≡ cond (ltb rid 64) low (cond (ltb rid 128) high 0) ⌝ }
 {
     if rid < 64 {
-        0xf9fc_001f_ffff_ffff
+        low
     } else if rid < 128 {
-        0x3_0003
+        high
     } else {
         0
     }
+}
+
+fn has_bit(low: u64, high: u64, rid: u8) -> bool
+    ensures { λ r. ⌜ r ≡ eqb (cond (ltb rid 64) low (cond (ltb rid 128) high 0) / 2 ^ (rid % 64) % 2) 1 ⌝ }
+{
+    (bits_about(low, high, rid) >> (rid % 64)) % 2 == 1
 }
 
 // As registers::is_known, which reads a table: a table is written to the stack at each read.
 fn names_register(rid: u8) -> bool
     ensures { λ r. ⌜ r ≡ known rid ⌝ }
 {
-    let word = known_word(rid);
-    (word >> (rid % 64)) % 2 == 1
+    has_bit(KNOWN_LOW, KNOWN_HIGH, rid)
+}
+
+// The type in registers::register_info, in the same way.
+fn data_type(rid: u8) -> RegisterDataType
+    ensures { λ r. ⌜ r ≡ data-type-of rid ⌝ }
+{
+    if has_bit(WHOLE_NUMBER, 0, rid) {
+        RegisterDataType::UInt32
+    } else {
+        RegisterDataType::Float
+    }
 }
 
 pub fn frame_class(data: [u8; 8]) -> FrameClass
@@ -152,17 +175,12 @@ pub fn decode_feedback(p_max: f32, v_max: f32, t_max: f32, data: [u8; 8]) -> Dec
 
 // The 32 bits in d4 to d7, lowest byte first, as a value of the type of the register in d3.
 fn register_value(data: [u8; 8]) -> RegisterValue
-    requires { ⌜ known (Spec.d «data» 3) ≡ true ⌝ }
     ensures { λ r. ⌜ r ≡ Spec.register-value «data» ⌝ }
 {
     let high = joined(data[7], data[6]);
     let low = joined(data[5], data[4]);
     let bits = (high as u32) * 0x1_0000 + (low as u32);
-    let info = registers::register_info(data[3]);
-    match info {
-        RegisterInfo::Known(_, data_type) => registers::value_from_bits(data_type, bits),
-        RegisterInfo::Unknown => RegisterValue::UInt32(bits),
-    }
+    registers::value_from_bits(data_type(data[3]), bits)
 }
 
 // Sorts a frame and reads it.

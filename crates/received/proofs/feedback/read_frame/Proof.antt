@@ -6,7 +6,6 @@ use Rattle.motor_core.specs.declared.model.PvTLimits.{PvTLimits}
 use Rattle.received.specs.Received.{class-of, received, by-class, d}
 use Rattle.received.specs.declared.feedback.FrameClass.{FrameClass}
 use Rattle.received.specs.declared.feedback.Received.the-variants.{Reply, Ack, Feedback}
-use Rattle.received.proofs.Classes.{reply-known, ack-known}
 use borrow.Author.Needs.{needs}
 use Rattle.received.proofs.feedback.read_frame.Statement.{statement}
 use Rattle.received.proofs.feedback.read_frame.Tie as tie
@@ -21,7 +20,7 @@ array-read-t9 : tie.Need-array-read-t9
 array-read-t9 c = search needs
 
 register-value-requires : tie.Need-register-value-requires
-register-value-requires c κs = reply-known _ _ _ (sym (c .before .before .frame-class .ensures) ∙ c .enum-told .given .1)
+register-value-requires c κs = search needs
 
 enum-told-2 : tie.Need-enum-told-2
 enum-told-2 c = search needs
@@ -30,7 +29,7 @@ array-read-t14 : tie.Need-array-read-t14
 array-read-t14 c = search needs
 
 register-value-requires-2 : tie.Need-register-value-requires-2
-register-value-requires-2 c κs = ack-known _ _ _ (sym (c .before .before .frame-class .ensures) ∙ c .enum-told2 .given .1)
+register-value-requires-2 c κs = search needs
 
 enum-told-3 : tie.Need-enum-told-3
 enum-told-3 c = search needs

@@ -1,7 +1,7 @@
--- `received::feedback::known_word` meets its contract. Assumes nothing.
+-- `received::feedback::bits_about` meets its contract. Assumes nothing.
 use borrow.Author.Tests.{lt-ltb, le-ltb}
-use Rattle.received.proofs.feedback.known_word.Statement.{statement}
-use Rattle.received.proofs.feedback.known_word.Tie as tie
+use Rattle.received.proofs.feedback.bits_about.Statement.{statement}
+use Rattle.received.proofs.feedback.bits_about.Tie as tie
 
 returns : tie.Need-returns
 returns c = simp (lt-ltb _ _ (c .if1 .taken))
@@ -12,5 +12,5 @@ returns-2 c = simp (le-ltb _ _ (c .before .if1 .left), lt-ltb _ _ (c .if2 .taken
 returns-3 : tie.Need-returns-3
 returns-3 c = simp (le-ltb _ _ (c .before .if1 .left), le-ltb _ _ (c .if2 .left))
 
-pub known-word-spec : {M : Type 1} → statement M
-known-word-spec = tie.close (tie.spec returns returns-2 returns-3)
+pub bits-about-spec : {M : Type 1} → statement M
+bits-about-spec = tie.close (tie.spec returns returns-2 returns-3)
