@@ -1,4 +1,5 @@
-// Bench cases that are run and not proved. Each line is a name and what came out.
+// Bench cases that are run and not proved, and what no line of the script reaches. Each line is a name
+// and what came out.
 mod running;
 mod sessions;
 

@@ -1,4 +1,5 @@
-// What the motor last said of a register, in a reply or in an ack.
+// What the motor last said of a register, in a reply or in an ack: an entry with its stamp, the slot
+// that holds it, and where a run looks for it.
 ghost use mathlib.Core.Path.{_≡_};
 ghost use Rattle.cache.specs.Cache as Spec;
 use motor_core::error::REGISTER;

@@ -1,4 +1,5 @@
-// The confirmed write: `write_register_u32` and `write_register_f32`, with `wait_for_write_ack`.
+// The confirmed write: `write_register_u32` and `write_register_f32`, with `wait_for_write_ack`. It
+// sends, waits for an ack of the value, and tries again, three times in all.
 pub mod ack;
 
 ghost use mathlib.Core.Path.{_≡_};

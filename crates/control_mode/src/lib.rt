@@ -1,4 +1,5 @@
-// The control modes, and the setpoint that stands still in each.
+// The control modes, the numbers that register 10 has for them, and the frame of the setpoint that
+// stands still in each.
 ghost use mathlib.Core.Path.{_≡_};
 ghost use Rattle.control_mode.specs.Mode as Spec;
 use float::F32Bits;

@@ -1,4 +1,5 @@
-// Reads the line script on standard input, and writes a line for each call to standard output.
+// Reads the line script on standard input, and writes a line for each call to standard output. One
+// session is in use at a time.
 mod answer;
 mod commands;
 mod fields;

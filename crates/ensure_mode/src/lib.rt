@@ -1,4 +1,5 @@
-// The mode switch, `ensure_control_mode`: the reads of the mode, and the step from stage to stage.
+// The mode switch, `ensure_control_mode`: the reads of the mode, and the step from stage to stage. What
+// stands before the first write and after each write is in `prepare_switch` and `finish_switch`.
 ghost use mathlib.Core.Path.{_≡_};
 ghost use Rattle.ensure_mode.specs.Switch as Spec;
 use cache::Entry;

@@ -1,4 +1,5 @@
-// The latest feedback with its stamp and its number, as the Rust's feedback.rs keeps it.
+// The latest feedback with its stamp and its number, as the Rust's feedback.rs keeps it, and the patch
+// of its status and temperatures.
 ghost use mathlib.Core.Path.{_≡_};
 ghost use Rattle.feedback.specs.Feedback as Spec;
 use motor_core::time::Instant;

@@ -1,4 +1,5 @@
 // After a write of the mode: a sleep, if there is time, and `finish_mode_switch`, the hold frame.
+// `after` is the number of verifying reads after the next one.
 ghost use mathlib.Core.Path.{_≡_};
 ghost use Rattle.finish_switch.specs.Finish as Spec;
 use confirmed_write::WriteNext;
@@ -16,6 +17,7 @@ use time_left::mode_read_cap;
 use time_left::settle_time;
 use want::SendResult;
 
+// By how the write went.
 pub fn written(after: u8, progress: Progress, next: WriteNext) -> SwitchNext
     ensures { λ r. ⌜ r ≡ Spec.written after progress next ⌝ }
 {
@@ -29,6 +31,7 @@ pub fn written(after: u8, progress: Progress, next: WriteNext) -> SwitchNext
     }
 }
 
+// The sleep, as long as there is time for it.
 pub fn settle(
     mode: ControlMode,
     timeout: Duration,
@@ -71,6 +74,7 @@ fn hold_position(after: u8, progress: Progress) -> SwitchNext
     }
 }
 
+// The hold frame, if the mode and what is known of the position want one.
 pub fn finish(mode: ControlMode, after: u8, progress: Progress) -> SwitchNext
     ensures { λ r. ⌜ r ≡ Spec.finish mode after progress ⌝ }
 {
@@ -82,6 +86,7 @@ pub fn finish(mode: ControlMode, after: u8, progress: Progress) -> SwitchNext
     }
 }
 
+// By how its send went.
 pub fn held(after: u8, progress: Progress, sending: SendResult) -> SwitchNext
     ensures { λ r. ⌜ r ≡ Spec.held after progress sending ⌝ }
 {

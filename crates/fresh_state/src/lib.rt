@@ -1,4 +1,5 @@
-// The fresh-state request: `request_fresh_state`.
+// The fresh-state request, `request_fresh_state`: asks for feedback and waits for a record that is no
+// older. Storing, which begins with one, is in `store`.
 pub mod store;
 
 ghost use mathlib.Core.Path.{_≡_};

@@ -23,7 +23,7 @@ pub struct Parts {
 }
 
 // Where the slots of a frame's register stand. Of a feedback it is any place, and both slots stay.
-pub fn frame_place(frame: CanFrame) -> usize
+fn frame_place(frame: CanFrame) -> usize
     ensures { λ r. ⌜ r ≡ Spec.frame-place frame ⌝ }
 {
     let data = frame.data;
@@ -31,7 +31,7 @@ pub fn frame_place(frame: CanFrame) -> usize
 }
 
 // Takes a frame, with its reading, into the parts.
-pub fn parts_step(heard: Heard, reply: Slot, ack: Slot, frame: CanFrame, reading: Instant) -> Parts
+fn parts_step(heard: Heard, reply: Slot, ack: Slot, frame: CanFrame, reading: Instant) -> Parts
     ensures { λ r. ⌜ r ≡ Spec.parts-step heard reply ack frame reading ⌝ }
 {
     let step = frame_step(heard, frame, reading);

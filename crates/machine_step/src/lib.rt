@@ -1,4 +1,5 @@
-// The step of each run's machine by an answer: the machine that goes on, or the run's result.
+// The step of each run's machine by an answer: the machine that goes on, or the run's result. It sees
+// the latest record and the one entry that the machine looks at.
 ghost use mathlib.Core.Path.{_≡_};
 ghost use Rattle.machine_step.specs.Step as Spec;
 use cache::Entry;

@@ -1,5 +1,5 @@
-// A loop that a benchmark calls from Rust: a session switches between two modes, on a line whose motor
-// answers every frame at once. The checksum has what the calls tell and everything that a frame may change.
+// A loop that a benchmark calls from Rust: a session switches between two modes, with a motor that
+// answers every frame at once. The checksum has what the calls tell and all that a frame may change.
 ghost use mathlib.Core.Path.{_≡_};
 ghost use Rattle.mode_loops.specs.Switches as Spec;
 use frame::data_bytes;
@@ -83,9 +83,9 @@ fn answered(line: Line) -> Line
         Told::WantClock => told(answer_run(session, Answer::Reading(now)), mode, now, sum),
         Told::WantSend(_, data) => {
             let taking = process_feedback_frame(session, motor_frame(mode, data), now);
-            let heard = taking.session;
+            let after = taking.session;
             told(
-                answer_run(heard, Answer::Sent),
+                answer_run(after, Answer::Sent),
                 mode_after(mode, data),
                 now,
                 sum,

@@ -28,7 +28,7 @@ use Rattle.runs.specs.declared.Told.{Told}
 use Rattle.runs.specs.declared.Turn.{Turn as Returning}
 use Rattle.runs.proofs.Effects.{entry, answer-taken, answerable}
 use Rattle.mode_switch.specs.Claim.{answer, told, step, Gave, Turn, result-in, result-of, gave-after, Accepted}
-use Rattle.mode_switch.proofs.Ran.{machine, gave-result, Onward, Ran}
+use Rattle.mode_switch.proofs.Ran.{machine, onward-cases, Ran}
 use Rattle.mode_switch.proofs.Traced.{none≢some, want-on, end-of}
 
 wants-accepted : (h : Heard) (w : Want) → Accepted (wanted h w)
@@ -44,16 +44,10 @@ module _ (h : Heard) (mode : ControlMode) (timeout : Duration) (z : Session) whe
   still-open : (ts : List Turn) (p : Switch) (l : Instant) → Ran h mode timeout z p l ts → result-of ts ≡ none → Stands-open
   unfolding Ran result-of result-in
   still-open [] p l ran e = (p, ran .0, ran .1)
-  still-open (t ∷ ts) p l (k, on) e = go (switch-step mode timeout (k .entry) p (t .answer)) on (λ q ran e. still-open ts q (with-reading (k .heard) (t .answer) .last) ran e)
-    where
-      ended : (r : RunResult) → t .gave ≡ gave-result h mode timeout r → ⊥
-      ended r gave = none≢some (sym e ∙ end-of h mode timeout t ts r gave)
-
-      go : (x : SwitchNext) → Onward h mode timeout (λ q. Ran h mode timeout z q (with-reading (k .heard) (t .answer) .last) ts) x t ts
-          → ((q : Switch) → Ran h mode timeout z q (with-reading (k .heard) (t .answer) .last) ts → result-of ts ≡ none → Stands-open) → Stands-open
-      go (Goes q) (gave, ran) ih = ih q ran (sym (want-on h mode timeout t ts q gave) ∙ e)
-      go Done (gave, stop) ih = absurd (ended Result.Done gave)
-      go (Failed failure) (gave, stop) ih = absurd (ended (Result.Failed failure) gave)
+  still-open (t ∷ ts) p l (k, on) e =
+      onward-cases h mode timeout (λ q. Ran h mode timeout z q (with-reading (k .heard) (t .answer) .last) ts) t ts (switch-step mode timeout (k .entry) p (t .answer)) on
+      (λ q x gave ran. still-open ts q (with-reading (k .heard) (t .answer) .last) ran (sym (want-on h mode timeout t ts q gave) ∙ e))
+      (λ r x gave stop. absurd (none≢some (sym e ∙ end-of h mode timeout t ts r gave)))
 
   -- an answer that is accepted
   abbrev Answerable : Type 0
@@ -76,13 +70,7 @@ module _ (h : Heard) (mode : ControlMode) (timeout : Duration) (z : Session) whe
   pub closed-after : (ts : List Turn) (p : Switch) (l : Instant) (g : Gave) (r : RunResult) → Ran h mode timeout z p l ts → result-of ts ≡ some r → gave-after g ts .wants ≡ none
   unfolding Ran result-of gave-after
   closed-after [] p l g r ran e = absurd (none≢some e)
-  closed-after (t ∷ ts) p l g r (k, on) e = go (switch-step mode timeout (k .entry) p (t .answer)) on (λ q ran e. closed-after ts q (with-reading (k .heard) (t .answer) .last) (t .gave) r ran e)
-    where
-      last : (s : RunResult) → t .gave ≡ gave-result h mode timeout s → ts ≡ [] → gave-after (t .gave) ts .wants ≡ none
-      last s gave stop = ap (λ (ts : List Turn). gave-after (t .gave) ts .wants) stop ∙ ap (λ (g : Gave). g .wants) gave
-
-      go : (x : SwitchNext) → Onward h mode timeout (λ q. Ran h mode timeout z q (with-reading (k .heard) (t .answer) .last) ts) x t ts
-          → ((q : Switch) → Ran h mode timeout z q (with-reading (k .heard) (t .answer) .last) ts → result-of ts ≡ some r → gave-after (t .gave) ts .wants ≡ none) → gave-after (t .gave) ts .wants ≡ none
-      go (Goes q) (gave, ran) ih = ih q ran (sym (want-on h mode timeout t ts q gave) ∙ e)
-      go Done (gave, stop) ih = last Result.Done gave stop
-      go (Failed failure) (gave, stop) ih = last (Result.Failed failure) gave stop
+  closed-after (t ∷ ts) p l g r (k, on) e =
+      onward-cases h mode timeout (λ q. Ran h mode timeout z q (with-reading (k .heard) (t .answer) .last) ts) t ts (switch-step mode timeout (k .entry) p (t .answer)) on
+      (λ q x gave ran. closed-after ts q (with-reading (k .heard) (t .answer) .last) (t .gave) r ran (sym (want-on h mode timeout t ts q gave) ∙ e))
+      (λ s x gave stop. ap (λ (ts : List Turn). gave-after (t .gave) ts .wants) stop ∙ ap (λ (g : Gave). g .wants) gave)

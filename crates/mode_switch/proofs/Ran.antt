@@ -77,6 +77,14 @@ module _ (h : Heard) (mode : ControlMode) (timeout : Duration) where
   Onward rest Done t ts = (t .gave ≡ gave-result Result.Done) × (ts ≡ [])
   Onward rest (Failed failure) t ts = (t .gave ≡ gave-result (Result.Failed failure)) × (ts ≡ [])
 
+  -- by what the step came to
+  pub onward-cases : {P : Type 0} (R : Switch → Type 0) (t : Turn) (ts : List Turn) (x : SwitchNext) → Onward R x t ts
+      → ((q : Switch) → x ≡ Goes q → t .gave ≡ gave-want q → R q → P)
+      → ((r : RunResult) → after-switch mode timeout x ≡ Ends r → t .gave ≡ gave-result r → ts ≡ [] → P) → P
+  onward-cases R t ts (Goes q) (gave, rest) goes ends = goes q refl gave rest
+  onward-cases R t ts Done (gave, stop) goes ends = ends Result.Done refl gave stop
+  onward-cases R t ts (Failed failure) (gave, stop) goes ends = ends (Result.Failed failure) refl gave stop
+
   module _ (z : Session) where
     unfoldable pub Ran : Switch → Instant → List Turn → Type 0
     Ran p l [] = (z .run .phase ≡ Open (machine p)) × (z .heard .last .0 ≤ 2 ^ 62)

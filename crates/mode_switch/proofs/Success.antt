@@ -42,7 +42,7 @@ use Rattle.runs.specs.Runs.{wanted, with-reading}
 use Rattle.run_laws.specs.Ends.{wait-opening, Look, Since}
 use Rattle.mode_switch.specs.Claim.{Gave, Turn, gaves, once, count, a-send, on-7ff, wants-send, reads-mode, mode-read, result-of, reading-or, gave-after, reading-after, Looks, Found}
 use Rattle.mode_switch.proofs.ModeReads.{mode-ask, in-read, ask-of, Saw, Entered, Law, switch-law, Ends-done, ends-done, Quiet, Wants-send, Stays-quiet, sending-quiet, stays-quiet, quiet-sleep}
-use Rattle.mode_switch.proofs.Ran.{gave-want, gave-result, Took, Onward, Ran}
+use Rattle.mode_switch.proofs.Ran.{gave-want, gave-result, Took, Onward, onward-cases, Ran}
 use Rattle.mode_switch.proofs.Told.{reads-alike}
 use Rattle.mode_switch.proofs.Traced.{none≢some, want-on, end-of}
 
@@ -350,16 +350,12 @@ module _ (h : Heard) (mode : ControlMode) (timeout : Duration) where
     walk : (before rest : List Turn) (p : Switch) (l : Instant) (r : Option Instant) → (rest ≡ [] → ⊥) → Runs p l (before ++ rest) → Opened r p → Reached (gave-after (want-of p) before) (reading-after r before) rest × (result-of (before ++ rest) ≡ result-of rest)
     unfolding Ran gave-after reading-after
     walk [] rest p l r more ran opened = (record { at = p; from = l; ran = ran; gave = refl; opened = opened }, refl)
-    walk (t ∷ before) rest p l r more (k, on) opened = go (switch-step mode timeout (k .entry) p (t .answer)) refl on (λ q ran o. walk before rest q (with-reading (k .heard) (t .answer) .last) (reading-or (t .answer) r) more ran o)
-      where
-        go : (x : SwitchNext) → switch-step mode timeout (k .entry) p (t .answer) ≡ x → Onward h mode timeout (λ q. Runs q (with-reading (k .heard) (t .answer) .last) (before ++ rest)) x t (before ++ rest)
-            → ((q : Switch) → Runs q (with-reading (k .heard) (t .answer) .last) (before ++ rest) → Opened (reading-or (t .answer) r) q → Reached (gave-after (want-of q) before) (reading-after (reading-or (t .answer) r) before) rest × (result-of (before ++ rest) ≡ result-of rest))
-            → Reached (gave-after (t .gave) before) (reading-after (reading-or (t .answer) r) before) rest × (result-of (t ∷ (before ++ rest)) ≡ result-of rest)
-        go (Goes q) e (gave, ran) ih =
-            let x = ih q ran (opened-on p q r (k .entry) (t .answer) (k .fit) e) in
-            (subst (λ (g : Gave). Reached (gave-after g before) (reading-after (reading-or (t .answer) r) before) rest) (sym gave) (x .0), want-on h mode timeout t (before ++ rest) q gave ∙ x .1)
-        go Done e (gave, stop) ih = absurd (more (rest-empty before rest stop))
-        go (Failed failure) e (gave, stop) ih = absurd (more (rest-empty before rest stop))
+    walk (t ∷ before) rest p l r more (k, on) opened =
+        onward-cases h mode timeout (λ q. Runs q (with-reading (k .heard) (t .answer) .last) (before ++ rest)) t (before ++ rest) (switch-step mode timeout (k .entry) p (t .answer)) on
+        (λ q e gave ran.
+        let x = walk before rest q (with-reading (k .heard) (t .answer) .last) (reading-or (t .answer) r) more ran (opened-on p q r (k .entry) (t .answer) (k .fit) e) in
+        (subst (λ (g : Gave). Reached (gave-after g before) (reading-after (reading-or (t .answer) r) before) rest) (sym gave) (x .0), want-on h mode timeout t (before ++ rest) q gave ∙ x .1))
+        (λ f e gave stop. absurd (more (rest-empty before rest stop)))
 
     -- the look
     module _ (look : Turn) (later : List Turn) (o stamp : Instant) (finds : look .sees ≡ Held (UInt32 number) stamp) (fresh : o .0 ≤ stamp .0) where
@@ -384,27 +380,21 @@ module _ (h : Heard) (mode : ControlMode) (timeout : Duration) where
         quiet-done [] p l ran quiet silent none-sent =
             slept-done p l ran (quiet-sleep mode o p quiet (subst (λ (a : Answer). fits (switch-want mode p) a ≡ true) slept (ran .0 .fit)))
         quiet-done (u ∷ us) p l (k, on) quiet silent none-sent =
-            go (switch-step mode timeout (k .entry) p (u .answer)) on (stays-quiet mode timeout (k .entry) (u .answer) o p quiet (silent-want (switch-want mode p) silent))
-            (λ q ran still gave. quiet-done us q (with-reading (k .heard) (u .answer) .last) ran still (sym (ap sends-in gave) ∙ first-zero (sends-in (u .gave)) _ none-sent) (rest-zero (sends-in (u .gave)) _ none-sent))
-          where
-            go : (x : SwitchNext) → Onward h mode timeout (λ q. Runs q (with-reading (k .heard) (u .answer) .last) (us ++ (look ∷ later))) x u (us ++ (look ∷ later)) → Stays-quiet mode timeout (k .entry) (u .answer) o x
-                → ((q : Switch) → Runs q (with-reading (k .heard) (u .answer) .last) (us ++ (look ∷ later)) → Quiet o q → u .gave ≡ want-of q → result-of (us ++ (look ∷ later)) ≡ some Result.Done)
-                → result-of (u ∷ (us ++ (look ∷ later))) ≡ some Result.Done
-            go (Goes q) (gave, ran) still ih = want-on h mode timeout u (us ++ (look ∷ later)) q gave ∙ ih q ran still gave
-            go Done (gave, stop) still ih = end-of h mode timeout u (us ++ (look ∷ later)) Result.Done gave
-            go (Failed failure) (gave, stop) still ih = absurd (not-empty us look later stop)
+            onward-cases h mode timeout (λ q. Runs q (with-reading (k .heard) (u .answer) .last) (us ++ (look ∷ later))) u (us ++ (look ∷ later)) (switch-step mode timeout (k .entry) p (u .answer)) on
+            (λ q e gave ran. want-on h mode timeout u (us ++ (look ∷ later)) q gave
+            ∙ quiet-done us q (with-reading (k .heard) (u .answer) .last) ran
+            (subst (Stays-quiet mode timeout (k .entry) (u .answer) o) e (stays-quiet mode timeout (k .entry) (u .answer) o p quiet (silent-want (switch-want mode p) silent)))
+            (sym (ap sends-in gave) ∙ first-zero (sends-in (u .gave)) _ none-sent) (rest-zero (sends-in (u .gave)) _ none-sent))
+            (λ r e gave stop. absurd (not-empty us look later stop))
 
         waited-done : (u : Turn) (us : List Turn) (p : Switch) (l : Instant) → Runs p l (u ∷ (us ++ (look ∷ later))) → mode-ask p ≡ some (Sending o) → count sending (gaves (u ∷ us)) ≡ 0 → result-of (u ∷ (us ++ (look ∷ later))) ≡ some Result.Done
         unfolding Ran gaves count
         waited-done u us p l (k, on) at none-sent =
-            go (switch-step mode timeout (k .entry) p (u .answer)) on (sending-quiet mode timeout (k .entry) (u .answer) o p at)
-          where
-            go : (x : SwitchNext) → Onward h mode timeout (λ q. Runs q (with-reading (k .heard) (u .answer) .last) (us ++ (look ∷ later))) x u (us ++ (look ∷ later)) → Stays-quiet mode timeout (k .entry) (u .answer) o x → result-of (u ∷ (us ++ (look ∷ later))) ≡ some Result.Done
-            go (Goes q) (gave, ran) still =
-                want-on h mode timeout u (us ++ (look ∷ later)) q gave
-                ∙ quiet-done us q (with-reading (k .heard) (u .answer) .last) ran still (sym (ap sends-in gave) ∙ first-zero (sends-in (u .gave)) _ none-sent) (rest-zero (sends-in (u .gave)) _ none-sent)
-            go Done (gave, stop) still = end-of h mode timeout u (us ++ (look ∷ later)) Result.Done gave
-            go (Failed failure) (gave, stop) still = absurd (not-empty us look later stop)
+            onward-cases h mode timeout (λ q. Runs q (with-reading (k .heard) (u .answer) .last) (us ++ (look ∷ later))) u (us ++ (look ∷ later)) (switch-step mode timeout (k .entry) p (u .answer)) on
+            (λ q e gave ran. want-on h mode timeout u (us ++ (look ∷ later)) q gave
+            ∙ quiet-done us q (with-reading (k .heard) (u .answer) .last) ran (subst (Stays-quiet mode timeout (k .entry) (u .answer) o) e (sending-quiet mode timeout (k .entry) (u .answer) o p at))
+            (sym (ap sends-in gave) ∙ first-zero (sends-in (u .gave)) _ none-sent) (rest-zero (sends-in (u .gave)) _ none-sent))
+            (λ r e gave stop. absurd (not-empty us look later stop))
 
     pub found-done : (ts : List Turn) (p : Switch) (l : Instant) (r : Option Instant) → Runs p l ts → Opened r p → Succeeds r (want-of p) ts → result-of ts ≡ some Result.Done
     unfolding Looks

@@ -28,7 +28,7 @@ use Rattle.run_laws.specs.Trace.{Given, wants-from, after}
 use Rattle.run_laws.specs.Trace as Trace
 use Rattle.mode_switch.specs.Claim.{Gave, Turn, gaves, once, count, result-in, result-of, reading-or, next-reading, All-move}
 use Rattle.mode_switch.proofs.Moving.{Behind, Pending, Goes-on, goes-on}
-use Rattle.mode_switch.proofs.Ran.{machine, gave-want, gave-result, Took, Onward, Ran}
+use Rattle.mode_switch.proofs.Ran.{machine, gave-want, gave-result, Took, onward-cases, Ran}
 
 pub none≢some : {A : Type 0} {x : A} → none ≡ some x → ⊥
 none≢some {A} e = subst is-none e tt
@@ -126,12 +126,10 @@ module _ (h : Heard) (mode : ControlMode) (timeout : Duration) where
         moves = λ k′ b pending m. (fine-on k′ b pending m .is-fine, tt);
       }
 
-      onward : (R : Switch → Type 0) → ((q : Switch) → R q → Traced q (with-reading (k .heard) (t .answer) .last) ts) → (x : SwitchNext) → next ≡ x → Onward h mode timeout R x t ts → Traced p l (t ∷ ts)
-      onward R rest (Goes q) e (gave, r) = goes q e gave (rest q r)
-      onward R rest Done e (gave, stop) = ends Result.Done (ap stepped e) gave stop
-      onward R rest (Failed failure) e (gave, stop) = ends (Result.Failed failure) (ap stepped e) gave stop
-
   pub traced : (z : Session) (ts : List Turn) (p : Switch) (l : Instant) → Ran h mode timeout z p l ts → Traced p l ts
   unfolding Ran
   traced z [] p l r = none-yet p l
-  traced z (t ∷ ts) p l (k, on) = onward p l t ts k (λ q. Ran h mode timeout z q (with-reading (k .heard) (t .answer) .last) ts) (λ q r. traced z ts q (with-reading (k .heard) (t .answer) .last) r) (switch-step mode timeout (k .entry) p (t .answer)) refl on
+  traced z (t ∷ ts) p l (k, on) =
+      onward-cases h mode timeout (λ q. Ran h mode timeout z q (with-reading (k .heard) (t .answer) .last) ts) t ts (switch-step mode timeout (k .entry) p (t .answer)) on
+      (λ q x gave ran. goes p l t ts k q x gave (traced z ts q (with-reading (k .heard) (t .answer) .last) ran))
+      (λ r x gave stop. ends p l t ts k r (ap running-on x) gave stop)

@@ -1,4 +1,5 @@
-// A query of the model list: whether it is taken, and the answer to it.
+// A query of the model list, three limits and a tolerance or a count: whether it is taken, and the
+// answer to it, names or a refusal.
 ghost use mathlib.Core.Path.{_≡_};
 ghost use Rattle.model_query.specs.Query as Spec;
 use models::list::Maxima;

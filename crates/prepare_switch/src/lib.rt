@@ -58,6 +58,7 @@ pub fn prepare(mode: ControlMode, progress: Progress) -> SwitchNext
     }
 }
 
+// The read of the position, if there is time left for it.
 pub fn hold_time(timeout: Duration, progress: Progress, now: Instant) -> SwitchNext
     ensures { λ r. ⌜ r ≡ Spec.hold-time timeout progress now ⌝ }
 {
@@ -70,6 +71,7 @@ pub fn hold_time(timeout: Duration, progress: Progress, now: Instant) -> SwitchN
     }
 }
 
+// By how that read went: a failure means no position.
 pub fn hold_read(progress: Progress, length: Duration, next: ReadNext) -> SwitchNext
     ensures { λ r. ⌜ r ≡ Spec.hold-read progress length next ⌝ }
 {
@@ -83,12 +85,14 @@ pub fn hold_read(progress: Progress, length: Duration, next: ReadNext) -> Switch
     }
 }
 
+// `after` verifying reads come after the one that follows this write.
 pub fn write_mode(after: u8, progress: Progress) -> SwitchNext
     ensures { λ r. ⌜ r ≡ Spec.write-mode after progress ⌝ }
 {
     SwitchNext::Goes(Switch::Begun(progress, Stage::Writing(after, first_try())))
 }
 
+// After a clearing frame, sent or not: the next one, or the first write.
 pub fn cleared(channel: ControlMode, progress: Progress) -> SwitchNext
     ensures { λ r. ⌜ r ≡ Spec.cleared channel progress ⌝ }
 {

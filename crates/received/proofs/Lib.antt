@@ -1,3 +1,3 @@
 pub mod Classes
-pub mod RegisterBits
 pub mod OfRegister
+pub mod Sorting

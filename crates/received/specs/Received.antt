@@ -12,11 +12,14 @@ use Rattle.motor_core.specs.declared.model.LimitCheck.{LimitCheck}
 use Rattle.motor_core.specs.declared.model.LimitCheck.the-variants.{Accepted, Refused as BadLimits}
 use Rattle.registers.specs.Registers.{registers, elem, data-type-of}
 use Rattle.registers.specs.Value.{value-of}
+use Rattle.registers.specs.declared.RegisterDataType.{RegisterDataType}
 use Rattle.registers.specs.declared.RegisterValue.{RegisterValue}
 use Rattle.float.specs.Arithmetic.{float}
 use Rattle.frame.specs.Codes.{uint-to-float}
 use Rattle.received.specs.declared.feedback.FrameClass.{FrameClass}
 use Rattle.received.specs.declared.feedback.FrameClass.the-variants as Class
+use Rattle.received.specs.declared.feedback.Sorted.{Sorted}
+use Rattle.received.specs.declared.feedback.Sorted.the-variants as Sort
 use Rattle.received.specs.declared.feedback.SensorFeedback.{SensorFeedback}
 use Rattle.received.specs.declared.feedback.Decoded.{Decoded}
 use Rattle.received.specs.declared.feedback.Decoded.the-variants as Decode
@@ -63,9 +66,22 @@ accepted motor feedback f =
     not (f .«is_extended»)
     && (eqb (f .«arbitration_id») feedback || (ltb 0 (f .dlc) && eqb (d (f .«data») 0 % 16) (motor % 16)))
 
--- the register's value in d4 to d7, lowest byte first, by the type of the register in d3
+-- a value of the type in d4 to d7, lowest byte first
+abbrev pub typed-value : RegisterDataType → List ℕ → RegisterValue
+typed-value type bytes = value-of type (d bytes 4 + d bytes 5 * 0x100 + d bytes 6 * 0x1_0000 + d bytes 7 * 0x100_0000)
+
+-- the register's value, by the type of the register in d3
 unfoldable pub register-value : List ℕ → RegisterValue
-register-value bytes = value-of (data-type-of (d bytes 3)) (d bytes 4 + d bytes 5 * 0x100 + d bytes 6 * 0x1_0000 + d bytes 7 * 0x100_0000)
+register-value bytes = typed-value (data-type-of (d bytes 3)) bytes
+
+-- a frame's class, with the type of the register in d3
+abbrev pub sorted-as : FrameClass → RegisterDataType → Sorted
+sorted-as Class.Reply type = Sort.Reply type
+sorted-as Class.Ack type = Sort.Ack type
+sorted-as Class.Feedback type = Sort.Feedback
+
+unfoldable pub sorted : List ℕ → Sorted
+sorted bytes = sorted-as (class-of bytes) (data-type-of (d bytes 3))
 
 abbrev pub by-class : FrameClass → PvTLimits → List ℕ → Received
 by-class Class.Reply l bytes = Receive.Reply (d bytes 3) (register-value bytes)

@@ -1,9 +1,8 @@
 // What a received frame says: its class, the feedback in it, or a register and its value.
 ghost use mathlib.Core.Path.{_≡_};
-ghost use Prim.Native.Nat.{_+_, _*_, _/_, _%_, _^_, _<_};
-ghost use mathlib.Core.Bool.{cond, _&&_, _||_};
-ghost use lib.Dec.{leb, ltb, eqb};
-ghost use Rattle.registers.specs.Registers.{known, data-type-of};
+ghost use Prim.Native.Nat.{_+_, _*_, _^_, _<_};
+ghost use mathlib.Core.Bool.{_&&_, _||_};
+ghost use lib.Dec.{leb, eqb};
 ghost use Rattle.float.specs.Arithmetic.{float};
 ghost use Rattle.frame.specs.Codes.{uint-to-float, bits-in};
 ghost use Rattle.received.specs.Received as Spec;
@@ -12,11 +11,19 @@ use motor_core::bus::CanFrame;
 use motor_core::model::LimitCheck;
 use motor_core::model::PvTLimits;
 use registers::RegisterDataType;
+use registers::RegisterInfo;
 use registers::RegisterValue;
 
 pub enum FrameClass {
     Reply,
     Ack,
+    Feedback,
+}
+
+// The class of a frame, with the type of the register that it names.
+pub enum Sorted {
+    Reply(RegisterDataType),
+    Ack(RegisterDataType),
     Feedback,
 }
 
@@ -71,64 +78,35 @@ fn marks_register(d1: u8, d2: u8) -> bool
     d1 <= 0x0f && ((d2 == 0x33) | (d2 == 0x55))
 }
 
-// The registers that are known, a bit each: those below 64, and those from 64 on.
-const KNOWN_LOW: u64 = 0xf9fc_001f_ffff_ffff;
-
-const KNOWN_HIGH: u64 = 0x3_0003;
-
-// Those that hold a whole number. From 64 on there are none.
-const WHOLE_NUMBER: u64 = 0x18_0001_e780;
-
-fn bits_about(low: u64, high: u64, rid: u8) -> u64
-    ensures { λ r. ⌜ r ≡ cond (ltb rid 64) low (cond (ltb rid 128) high 0) ⌝ }
+// The register is looked up once, for the class and for the type.
+fn sort_frame(data: [u8; 8]) -> Sorted
+    ensures { λ r. ⌜ r ≡ Spec.sorted «data» ⌝ }
 {
-    if rid < 64 {
-        low
-    } else if rid < 128 {
-        high
-    } else {
-        0
+    let marker = data[2];
+    if !marks_register(data[1], marker) {
+        return Sorted::Feedback;
     }
-}
-
-fn has_bit(low: u64, high: u64, rid: u8) -> bool
-    ensures { λ r. ⌜ r ≡ eqb (cond (ltb rid 64) low (cond (ltb rid 128) high 0) / 2 ^ (rid % 64) % 2) 1 ⌝ }
-{
-    (bits_about(low, high, rid) >> (rid % 64)) % 2 == 1
-}
-
-// As registers::is_known, which reads a table: a table is written to the stack at each read.
-fn names_register(rid: u8) -> bool
-    ensures { λ r. ⌜ r ≡ known rid ⌝ }
-{
-    has_bit(KNOWN_LOW, KNOWN_HIGH, rid)
-}
-
-// The type in registers::register_info, in the same way.
-fn data_type(rid: u8) -> RegisterDataType
-    ensures { λ r. ⌜ r ≡ data-type-of rid ⌝ }
-{
-    if has_bit(WHOLE_NUMBER, 0, rid) {
-        RegisterDataType::UInt32
-    } else {
-        RegisterDataType::Float
+    let info = registers::register_info(data[3]);
+    match info {
+        RegisterInfo::Unknown => Sorted::Feedback,
+        RegisterInfo::Known(_, data_type) => {
+            if marker == 0x33 {
+                Sorted::Reply(data_type)
+            } else {
+                Sorted::Ack(data_type)
+            }
+        }
     }
 }
 
 pub fn frame_class(data: [u8; 8]) -> FrameClass
     ensures { λ r. ⌜ r ≡ Spec.class-of «data» ⌝ }
 {
-    let marker = data[2];
-    if !marks_register(data[1], marker) {
-        return FrameClass::Feedback;
-    }
-    if !names_register(data[3]) {
-        return FrameClass::Feedback;
-    }
-    if marker == 0x33 {
-        FrameClass::Reply
-    } else {
-        FrameClass::Ack
+    let sorted = sort_frame(data);
+    match sorted {
+        Sorted::Reply(_) => FrameClass::Reply,
+        Sorted::Ack(_) => FrameClass::Ack,
+        Sorted::Feedback => FrameClass::Feedback,
     }
 }
 
@@ -173,24 +151,24 @@ pub fn decode_feedback(p_max: f32, v_max: f32, t_max: f32, data: [u8; 8]) -> Dec
     }
 }
 
-// The 32 bits in d4 to d7, lowest byte first, as a value of the type of the register in d3.
-fn register_value(data: [u8; 8]) -> RegisterValue
-    ensures { λ r. ⌜ r ≡ Spec.register-value «data» ⌝ }
+// The 32 bits in d4 to d7, lowest byte first, as a value of a type.
+fn register_value(data: [u8; 8], data_type: RegisterDataType) -> RegisterValue
+    ensures { λ r. ⌜ r ≡ Spec.typed-value «data_type» «data» ⌝ }
 {
     let high = joined(data[7], data[6]);
     let low = joined(data[5], data[4]);
     let bits = (high as u32) * 0x1_0000 + (low as u32);
-    registers::value_from_bits(data_type(data[3]), bits)
+    registers::value_from_bits(data_type, bits)
 }
 
 // Sorts a frame and reads it.
 pub fn read_frame(data: [u8; 8], limits: PvTLimits) -> Received
     ensures { λ r. ⌜ r ≡ Spec.received limits «data» ⌝ }
 {
-    let class = frame_class(data);
-    match class {
-        FrameClass::Reply => Received::Reply(data[3], register_value(data)),
-        FrameClass::Ack => Received::Ack(data[3], register_value(data)),
-        FrameClass::Feedback => Received::Feedback(decode_sensor_feedback(data, limits)),
+    let sorted = sort_frame(data);
+    match sorted {
+        Sorted::Reply(data_type) => Received::Reply(data[3], register_value(data, data_type)),
+        Sorted::Ack(data_type) => Received::Ack(data[3], register_value(data, data_type)),
+        Sorted::Feedback => Received::Feedback(decode_sensor_feedback(data, limits)),
     }
 }

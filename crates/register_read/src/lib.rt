@@ -1,4 +1,5 @@
-// The register read: `wait_for_register_value`, and `get_register_u32` and `get_register_f32` on it.
+// The register read: `wait_for_register_value`, and `get_register_u32` and `get_register_f32` on it. It
+// asks, and waits for a reply that is no older than its opening.
 ghost use mathlib.Core.Path.{_≡_};
 ghost use Rattle.register_read.specs.Read as Spec;
 use cache::Entry;

@@ -1,4 +1,5 @@
-// The motor's registers: which are known, their type and access, and the values that they hold.
+// The motor's registers: which are known, their type and access, and the values that they hold. What is
+// known comes from one table, which is the Rust's list.
 ghost use mathlib.Core.Path.{_≡_};
 ghost use Rattle.registers.specs.Registers.{code-of, info-of, known};
 ghost use Rattle.registers.specs.Value.{value-of, bits-of, type-of, is-u32, of-type, same-value};

@@ -1,4 +1,5 @@
 // The frames that ask: registers, storing, feedback, and the commands that a last byte tells apart.
+// Each as its data, and as a frame or a refusal.
 ghost use mathlib.Core.Path.{_≡_};
 ghost use mathlib.Core.List.{[], _∷_};
 ghost use Rattle.frame.specs.Layout.{field, byte};

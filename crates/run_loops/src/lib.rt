@@ -1,6 +1,5 @@
-// Loops that a benchmark calls from Rust: a session runs a register read, or a confirmed write, for
-// each number of a lent slice, and everything that it wants is answered at once. The checksum has the
-// frames, sleeps and results that the calls tell, and everything that a frame may change.
+// Loops that a benchmark calls from Rust: a session reads register 10, or writes it, for each number of
+// a slice, with prompt answers. The checksum has what the calls tell and all that a frame may change.
 ghost use mathlib.Core.Path.{_≡_};
 ghost use Rattle.run_loops.specs.Rounds as Spec;
 use frame::data_bytes;

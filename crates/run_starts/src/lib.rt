@@ -1,4 +1,5 @@
-// The starts of the runs. A start takes no reading; it is told the first want.
+// The starts of the runs on a session: refused while a run is open, or by their arguments. A start
+// takes no reading; it is told the first want.
 ghost use mathlib.Core.Path.{_≡_};
 ghost use Rattle.run_starts.specs.Start as Spec;
 use float::F32Bits;

@@ -1,4 +1,5 @@
-// The line script: the calls that lines are.
+// The line script: which call a line is, with its arguments as numbers. A line that is none is told
+// apart from an empty one.
 pub mod calls;
 
 pub use calls::parse;

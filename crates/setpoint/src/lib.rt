@@ -1,4 +1,5 @@
-// The frames that set a point: MIT, position-velocity, velocity and force-position.
+// The frames that set a point: MIT, position-velocity, velocity and force-position. Each as its data,
+// and as a frame or a refusal.
 ghost use mathlib.Core.Path.{_≡_};
 ghost use Prim.Native.Nat.{_+_, _*_, _/_, _%_};
 ghost use Rattle.frame.specs.Codes.{float-to-uint, bits-in};

@@ -1,4 +1,5 @@
-// The stages of a mode switch: what a switch keeps, what each stage wants and where it looks.
+// The stages of a mode switch: what a switch keeps, what each stage wants and where it looks. A session
+// holds one of them while a switch is open.
 ghost use mathlib.Core.Path.{_≡_};
 ghost use Rattle.switch_stage.specs.Stage as Spec;
 use cache::Place;

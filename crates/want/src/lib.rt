@@ -1,4 +1,5 @@
-// What a run wants, one thing at a time, and what it is answered.
+// What a run wants, one thing at a time: a reading, a message sent, a sleep; and what it is answered.
+// How a run fails, and the frame of each message.
 pub mod message;
 
 ghost use mathlib.Core.Path.{_≡_};

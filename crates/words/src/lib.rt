@@ -1,4 +1,5 @@
-// Bytes as words and numbers.
+// Bytes as words and numbers: where a line's words begin and end, and what a number in decimal or
+// hexadecimal is.
 mod numbers;
 
 pub use numbers::field;

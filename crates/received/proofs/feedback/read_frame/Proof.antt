@@ -1,76 +1,73 @@
 -- `received::feedback::read_frame` meets its contract. Assumes nothing.
-use mathlib.Core.Path.{_≡_, sym, ap, _∙_}
-use mathlib.Core.List.{List}
-use Prim.Native.Nat.{ℕ}
-use Rattle.motor_core.specs.declared.model.PvTLimits.{PvTLimits}
-use Rattle.received.specs.Received.{class-of, received, by-class, d}
-use Rattle.received.specs.declared.feedback.FrameClass.{FrameClass}
+use mathlib.Core.Path.{sym, ap, _∙_}
 use Rattle.received.specs.declared.feedback.Received.the-variants.{Reply, Ack, Feedback}
+use Rattle.received.specs.Received.{d}
+use Rattle.received.specs.declared.feedback.Sorted.{Sorted}
+use Rattle.received.proofs.Sorting.{read-as, sorted-read}
 use borrow.Author.Needs.{needs}
 use Rattle.received.proofs.feedback.read_frame.Statement.{statement}
 use Rattle.received.proofs.feedback.read_frame.Tie as tie
 
-frame-class-requires : tie.Need-frame-class-requires
-frame-class-requires c κs = search needs
+sort-frame-requires : tie.Need-sort-frame-requires
+sort-frame-requires c κs = search needs
 
-enum-told : tie.Need-enum-told
-enum-told c = search needs
+enum-known-sorted : tie.Need-enum-known-sorted
+enum-known-sorted c = search needs
 
-array-read-t9 : tie.Need-array-read-t9
-array-read-t9 c = search needs
+array-read-t11 : tie.Need-array-read-t11
+array-read-t11 c = search needs
 
 register-value-requires : tie.Need-register-value-requires
 register-value-requires c κs = search needs
 
-enum-told-2 : tie.Need-enum-told-2
-enum-told-2 c = search needs
+enum-known-sorted-2 : tie.Need-enum-known-sorted-2
+enum-known-sorted-2 c = search needs
 
-array-read-t14 : tie.Need-array-read-t14
-array-read-t14 c = search needs
+array-read-t16 : tie.Need-array-read-t16
+array-read-t16 c = search needs
 
 register-value-requires-2 : tie.Need-register-value-requires-2
 register-value-requires-2 c κs = search needs
 
-enum-told-3 : tie.Need-enum-told-3
-enum-told-3 c = search needs
+enum-told : tie.Need-enum-told
+enum-told c = search needs
 
 decode-sensor-feedback-requires : tie.Need-decode-sensor-feedback-requires
 decode-sensor-feedback-requires c κs = search needs
 
-sorted : (l : PvTLimits) (bytes : List ℕ) (class told : FrameClass) → class ≡ class-of bytes → class ≡ told → by-class told l bytes ≡ received l bytes
-unfolding received
-sorted l bytes class told e h = ap (λ (k : FrameClass). by-class k l bytes) (sym h ∙ e)
-
 returns : tie.Need-returns
 returns c =
-    let m = c .before .before .before in
-    let s = m .before in
-    ap (Reply (d (s .args .t1) 3)) (c .register-value .ensures) ∙ sorted (s .args .limits) (s .args .t1) _ _ (m .frame-class .ensures) (c .before .enum-told .given .1)
+    let told = c .before .before in
+    let sorted = told .before .before in
+    let a = sorted .before .args in
+    ap (Reply (d (a .t1) 3)) (c .register-value .ensures) ∙ ap (λ (s : Sorted). read-as s (a .limits) (a .t1)) (sym (told .sorted .given .1)) ∙ sorted-read (a .t1) _ (sorted .sort-frame .ensures) (a .limits)
 
 returns-2 : tie.Need-returns-2
 returns-2 c =
-    let m = c .before .before .before in
-    let s = m .before in
-    ap (Ack (d (s .args .t1) 3)) (c .register-value2 .ensures) ∙ sorted (s .args .limits) (s .args .t1) _ _ (m .frame-class .ensures) (c .before .enum-told2 .given .1)
+    let told = c .before .before in
+    let sorted = told .before .before in
+    let a = sorted .before .args in
+    ap (Ack (d (a .t1) 3)) (c .register-value2 .ensures) ∙ ap (λ (s : Sorted). read-as s (a .limits) (a .t1)) (sym (told .sorted2 .given .1)) ∙ sorted-read (a .t1) _ (sorted .sort-frame .ensures) (a .limits)
 
 returns-3 : tie.Need-returns-3
 returns-3 c =
-    let m = c .before .before .before in
-    let s = m .before in
-    ap Feedback (c .decode-sensor-feedback .ensures) ∙ sorted (s .args .limits) (s .args .t1) _ _ (m .frame-class .ensures) (c .before .enum-told3 .given .1)
+    let told = c .before in
+    let sorted = told .before .before in
+    let a = sorted .before .args in
+    ap Feedback (c .decode-sensor-feedback .ensures) ∙ ap (λ (s : Sorted). read-as s (a .limits) (a .t1)) (sym (told .enum-told .given .1)) ∙ sorted-read (a .t1) _ (sorted .sort-frame .ensures) (a .limits)
 
 pub read-frame-spec : {M : Type 1} → statement M
 read-frame-spec =
     tie.close
     (tie.spec
-    frame-class-requires
-    enum-told
-    array-read-t9
+    sort-frame-requires
+    enum-known-sorted
+    array-read-t11
     register-value-requires
-    enum-told-2
-    array-read-t14
+    enum-known-sorted-2
+    array-read-t16
     register-value-requires-2
-    enum-told-3
+    enum-told
     decode-sensor-feedback-requires
     returns
     returns-2

@@ -1,9 +1,8 @@
 -- `received::feedback::register_value` meets its contract. Assumes nothing.
-use mathlib.Core.Path.{_≡_, ap₂, _∙_}
+use mathlib.Core.Path.{_≡_, ap, _∙_}
 use Prim.Native.Nat.{ℕ, _+_, _*_}
 use native.Mathlib.Omega.{arith}
 use Rattle.registers.specs.Value.{value-of}
-use Rattle.received.specs.Received.{register-value}
 use borrow.Author.Needs.{needs}
 use Rattle.received.proofs.feedback.register_value.Statement.{statement}
 use Rattle.received.proofs.feedback.register_value.Tie as tie
@@ -38,12 +37,6 @@ cast-bits-2 c = search needs
 add-bits : tie.Need-add-bits
 add-bits c = search needs
 
-array-read-data-type : tie.Need-array-read-data-type
-array-read-data-type c = search needs
-
-data-type-requires : tie.Need-data-type-requires
-data-type-requires c κs = search needs
-
 value-from-bits-requires : tie.Need-value-from-bits-requires
 value-from-bits-requires c κs = search needs
 
@@ -52,11 +45,9 @@ four : (m n a b c d : ℕ) → m ≡ d * 256 + c → n ≡ b * 256 + a → m * 6
 four m n a b c d e h = omega arith
 
 returns : tie.Need-returns
-unfolding register-value
 returns c =
-    let t = c .before in
-    let j = t .before in
-    c .value-from-bits .ensures ∙ ap₂ value-of (t .data-type .ensures) (four _ _ _ _ _ _ (j .before .joined .ensures .0) (j .joined2 .ensures .0))
+    let j = c .before in
+    c .value-from-bits .ensures ∙ ap (value-of _) (four _ _ _ _ _ _ (j .before .joined .ensures .0) (j .joined2 .ensures .0))
 
 pub register-value-spec : {M : Type 1} → statement M
 register-value-spec =
@@ -72,7 +63,5 @@ register-value-spec =
     mul-bits
     cast-bits-2
     add-bits
-    array-read-data-type
-    data-type-requires
     value-from-bits-requires
     returns)
