@@ -12,14 +12,12 @@ use Rattle.want.specs.declared.Want.the-variants.{Clock, Send, Sleep}
 use Rattle.switch_stage.specs.Stage.{switch-want}
 use Rattle.ensure_mode.specs.Switch.{switch-step}
 use Rattle.switch_stage.specs.declared.Switch.{Switch}
-use Rattle.switch_stage.specs.declared.SwitchNext.{SwitchNext}
-use Rattle.switch_stage.specs.declared.SwitchNext.the-variants.{Goes, Done, Failed}
+use Rattle.switch_stage.specs.declared.SwitchNext.the-variants.{Goes}
 use Rattle.machine.specs.Machine.{machine-want}
 use Rattle.machine_step.specs.Step.{machine-step}
 use Rattle.machine_step.specs.declared.Next.{Next}
 use Rattle.machine_step.specs.declared.Next.the-variants as Next
 use Rattle.machine.specs.declared.RunResult.{RunResult}
-use Rattle.machine.specs.declared.RunResult.the-variants as Result
 use Rattle.session.specs.declared.Heard.{Heard}
 use Rattle.session.specs.declared.Phase.the-variants.{Open}
 use Rattle.session.specs.declared.Session.{Session}

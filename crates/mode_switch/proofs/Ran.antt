@@ -24,6 +24,7 @@ use Rattle.switch_stage.specs.declared.SwitchNext.{SwitchNext}
 use Rattle.switch_stage.specs.declared.SwitchNext.the-variants.{Goes, Done, Failed}
 use Rattle.machine.specs.Machine.{machine-want}
 use Rattle.machine_step.specs.Step.{machine-step, after-switch}
+use Rattle.machine_step.specs.declared.Next.the-variants.{Ends}
 use Rattle.machine.specs.declared.Machine.{Machine}
 use Rattle.machine.specs.declared.Machine.the-variants.{EnsureControlMode}
 use Rattle.machine.specs.declared.RunResult.{RunResult}

@@ -14,11 +14,10 @@ use Rattle.switch_stage.specs.Stage.{switch-want}
 use Rattle.ensure_mode.specs.Switch.{switch-step}
 use Rattle.switch_stage.specs.declared.Switch.{Switch}
 use Rattle.switch_stage.specs.declared.SwitchNext.{SwitchNext}
-use Rattle.switch_stage.specs.declared.SwitchNext.the-variants.{Goes, Done, Failed}
+use Rattle.switch_stage.specs.declared.SwitchNext.the-variants.{Goes}
 use Rattle.machine_step.specs.Step.{after-switch}
 use Rattle.machine.specs.declared.Machine.{Machine}
 use Rattle.machine.specs.declared.RunResult.{RunResult}
-use Rattle.machine.specs.declared.RunResult.the-variants as Result
 use Rattle.session.specs.declared.Heard.{Heard}
 use Rattle.session.specs.declared.Session.{Session}
 use Rattle.runs.specs.Runs.{wanted, with-reading}
