@@ -1,17 +1,22 @@
 -- The answer to a query, by the code's test of it. Assumes nothing.
-use mathlib.Core.Path.{_≡_}
-use mathlib.Core.Bool.{Bool, true, false, not}
-use mathlib.Core.List.{List}
+use mathlib.Core.Path.{_≡_, refl, ap, _∙_}
+use mathlib.Core.Bool.{Bool, true, false, cond}
+use mathlib.Core.List.{List, []}
 use Rattle.motor_core.specs.declared.name.Name.{Name}
-use Rattle.motor_core.proofs.Turned.{turned, passed}
-use Rattle.model_query.specs.Query.{query-accepted, listed, refused, answer}
+use Rattle.models.specs.Counted.{names-of}
 use Rattle.models.specs.declared.list.Maxima.{Maxima}
+use Rattle.models.specs.declared.list.Names.{Names}
+use Rattle.model_query.specs.Query.{query-accepted, outcome-of, listed, refused, answer}
+use Rattle.model_query.specs.declared.Listing.{Listing}
+use Rattle.model_query.specs.declared.Outcome.{Outcome}
 
-module _ (query : Maxima) (names : List Name) (accepts : Bool) (e : accepts ≡ query-accepted query) where
-  pub is-refused : not accepts ≡ true → refused ≡ answer query names
-  unfolding answer
-  is-refused h = turned accepts (query-accepted query) refused (listed names) e h
-
-  pub is-listed : not accepts ≡ false → listed names ≡ answer query names
-  unfolding answer
-  is-listed h = passed accepts (query-accepted query) refused (listed names) e h
+-- names that are found only where the query is taken
+pub is-answer : (query : Maxima) (names : List Name) {taken : Bool} {given : Outcome} {found : Names}
+    → taken ≡ query-accepted query → given ≡ outcome-of taken → found ≡ names-of (cond taken names [])
+    → _≡_ {A = Listing} (record { outcome = given; names = found }) (answer query names)
+unfolding answer
+is-answer query names {taken} e o f = (λ i. record { outcome = o i; names = f i }) ∙ by taken ∙ ap (λ (b : Bool). cond b (listed names) refused) e
+  where
+    by : (b : Bool) → _≡_ {A = Listing} (record { outcome = outcome-of b; names = names-of (cond b names []) }) (cond b (listed names) refused)
+    by true = refl
+    by false = refl

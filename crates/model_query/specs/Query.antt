@@ -8,6 +8,7 @@ use Rattle.motor_core.specs.declared.name.Name.{Name}
 use Rattle.models.specs.Counted.{names-of}
 use Rattle.models.specs.declared.list.Maxima.{Maxima}
 use Rattle.model_query.specs.declared.Listing.{Listing}
+use Rattle.model_query.specs.declared.Outcome.{Outcome}
 use Rattle.model_query.specs.declared.Outcome.the-variants.{Listed, Refused}
 
 -- 'Turned back', 11: taken from -65,536 to 65,536, both included. A NaN compares with neither, an infinity lies beyond
@@ -16,6 +17,9 @@ queryable x = le (fin true 1 (pos 16)) x && le x (fin false 1 (pos 16))
 
 unfoldable pub query-accepted : Maxima → Bool
 query-accepted query = queryable (query .«p_max») && queryable (query .«v_max») && queryable (query .«t_max»)
+
+abbrev pub outcome-of : Bool → Outcome
+outcome-of taken = cond taken Listed (Refused Error.query)
 
 -- names, or the refusal and no name
 abbrev pub listed : List Name → Listing

@@ -4,7 +4,6 @@ ghost use mathlib.Core.Path.{_≡_};
 ghost use Rattle.model_query.specs.Query as Spec;
 use models::list::Maxima;
 use models::list::Names;
-use models::list::no_names;
 use motor_core::error::QUERY;
 
 pub enum Outcome {
@@ -32,12 +31,12 @@ pub fn accepts_query(query: Maxima) -> bool
     queryable(query.p_max) && queryable(query.v_max) && queryable(query.t_max)
 }
 
-// The answer to a query that is not taken.
-pub fn refused() -> Listing
-    ensures { λ r. ⌜ r ≡ Spec.refused ⌝ }
+// Whether a query was taken, as the answer has it.
+pub fn outcome_of(taken: bool) -> Outcome
+    ensures { λ r. ⌜ r ≡ Spec.outcome-of taken ⌝ }
 {
-    Listing {
-        outcome: Outcome::Refused(QUERY),
-        names: no_names(),
+    if taken {
+        return Outcome::Listed;
     }
+    Outcome::Refused(QUERY)
 }

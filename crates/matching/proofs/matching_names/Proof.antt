@@ -1,14 +1,17 @@
--- `matching::matching_names` meets its contract. The invariant: the names are those of the matching models before i. Assumes nothing.
-use Prim.Native.Nat.{ℕ, _+_, _-_, _≤_, _<_}
+-- `matching::matching_names` meets its contract. The invariant: the names are those of the models before i that match and are counted. Assumes nothing.
+use Prim.Native.Nat.{ℕ, _+_, _-_, _≤_, _<_, min}
 use mathlib.Core.Path.{_≡_, refl, sym, ap, _∙_, subst}
-use mathlib.Core.Bool.{Bool, true, false, cond}
+use mathlib.Core.Bool.{Bool, true, false, cond, _&&_}
 use mathlib.Core.List.{List, [], _∷_, _++_, append-nil, map-append}
 use mathlib.Core.Logic.{⊎-elim}
-use native.Mathlib.Nat.{le-antisymm}
+use native.Mathlib.Nat.{le-trans, le-of-eq, min-le-left, min-le-right}
 use native.Mathlib.Omega.{arith}
 use borrow.Author.Needs.{needs}
+use borrow.Author.Tests.{ltb-true, ltb-false}
+use lib.Dec.{ltb}
 use lib.Ieee.{Float}
-use lib.ListN.{length, take, getD}
+use lib.ListN.{length, take, getD, length-take}
+use lib.Seq.{take-all, getD-take}
 use Rattle.motor_core.specs.declared.name.Name.{Name}
 use Rattle.models.specs.Counted.{model-names, keep}
 use Rattle.matching.specs.Matching as Spec
@@ -16,96 +19,177 @@ use Rattle.models.specs.declared.list.Maxima.{Maxima}
 use Rattle.models.specs.declared.list.MotorModelSpec.{MotorModelSpec}
 use Rattle.models.specs.declared.list.Names.{Names}
 use Rattle.matching.proofs.Kept.{keep-next}
-use Rattle.models.proofs.Lists.{Holds, holds-next, holds-like, holds-all, sixteen-models, take-min}
+use Rattle.models.proofs.Lists.{Holds, holds-next, holds-like, holds-all, sixteen-models}
 use Rattle.matching.proofs.matching_names.Statement.{statement}
 use Rattle.matching.proofs.matching_names.Tie as tie
 
 abbrev Inv-loop : tie.InvT-loop
-Inv-loop query tol list found₀ n₀ count i₀ found n i =
-    (i ≤ count) × (n ≤ i) × Holds (Spec.matching-names (take i (list .models)) query tol) n (found .names)
+Inv-loop count query tol list found₀ n₀ i₀ found n i =
+    (i ≤ 8) × (n ≤ i) × Holds (Spec.matching-names (take i (take count (list .models))) query tol) n (found .names)
 
 abbrev μ-loop : tie.MeasureT-loop
-μ-loop query tol list found₀ n₀ count i₀ found n i = count - i
+μ-loop count query tol list found₀ n₀ i₀ found n i = 8 - i
+
+abbrev Inv-loop2 : tie.InvT-loop2
+Inv-loop2 count query tol list found₀ n₀ i₀ found n i =
+    (i ≤ 16) × (n ≤ i) × Holds (Spec.matching-names (take i (take count (list .models))) query tol) n (found .names)
+
+abbrev μ-loop2 : tie.MeasureT-loop2
+μ-loop2 count query tol list found₀ n₀ i₀ found n i = 16 - i
 
 -- with the next model, by the test of it
-module _ (specs : List MotorModelSpec) (query : Maxima) (tol : Float) (i : ℕ) (d : MotorModelSpec) (within : i < length specs) where
-  with-next : (b : Bool) → Spec.matches query tol (getD specs i d) ≡ b
-      → Spec.matching-names (take (i + 1) specs) query tol ≡ Spec.matching-names (take i specs) query tol ++ cond b (getD specs i d .model ∷ []) []
+module _ (models : List MotorModelSpec) (count : ℕ) (query : Maxima) (tol : Float) (i : ℕ) (d : MotorModelSpec) (within : i < length models) where
+  counted : (b : Bool) → i < count → Spec.matches query tol (getD models i d) ≡ b
+      → Spec.matching-names (take (i + 1) (take count models)) query tol ≡ Spec.matching-names (take i (take count models)) query tol ++ cond b (getD models i d .model ∷ []) []
   unfolding Spec.matching-names keep
-  with-next b h =
-      ap model-names (keep-next (Spec.matches query tol) specs i d within)
-      ∙ map-append (λ (spec : MotorModelSpec). spec .model) (keep (Spec.matches query tol) (take i specs)) _
-      ∙ ap (λ (l : List Name). Spec.matching-names (take i specs) query tol ++ l) (ap (λ (t : Bool). model-names (cond t (getD specs i d ∷ []) [])) h ∙ one b)
+  counted b h e =
+      ap model-names (keep-next (Spec.matches query tol) (take count models) i d room)
+      ∙ map-append (λ (spec : MotorModelSpec). spec .model) (keep (Spec.matches query tol) (take i (take count models))) _
+      ∙ ap (λ (l : List Name). model-names (keep (Spec.matches query tol) (take i (take count models))) ++ l)
+      (ap (λ (spec : MotorModelSpec). model-names (cond (Spec.matches query tol spec) (spec ∷ []) [])) (getD-take count models i d h)
+      ∙ ap (λ (t : Bool). model-names (cond t (getD models i d ∷ []) [])) e
+      ∙ one b)
     where
-      one : (b : Bool) → model-names (cond b (getD specs i d ∷ []) []) ≡ cond b (getD specs i d .model ∷ []) []
+      least : (n m k : ℕ) → k ≡ min n m → i < n → i < m → i < k
+      least n m k e h g = omega arith
+
+      room : i < length (take count models)
+      room = least count (length models) (length (take count models)) (length-take count models) h within
+
+      one : (b : Bool) → model-names (cond b (getD models i d ∷ []) []) ≡ cond b (getD models i d .model ∷ []) []
       one true = refl
       one false = refl
 
-no-names-requires : tie.Need-no-names-requires Inv-loop μ-loop
+  passed : count ≤ i → Spec.matching-names (take (i + 1) (take count models)) query tol ≡ Spec.matching-names (take i (take count models)) query tol
+  passed h =
+      ap (λ (l : List MotorModelSpec). Spec.matching-names l query tol)
+      (take-all (i + 1) (take count models) (le-trans few (omega arith)) ∙ sym (take-all i (take count models) (le-trans few h)))
+    where
+      few : length (take count models) ≤ count
+      few = le-trans (le-of-eq (length-take count models)) (min-le-left count (length models))
+
+  with-next : (b : Bool) → (ltb i count && Spec.matches query tol (getD models i d)) ≡ b
+      → Spec.matching-names (take (i + 1) (take count models)) query tol ≡ Spec.matching-names (take i (take count models)) query tol ++ cond b (getD models i d .model ∷ []) []
+  with-next b e = go (ltb i count) refl e
+    where
+      go : (t : Bool) → ltb i count ≡ t → (t && Spec.matches query tol (getD models i d)) ≡ b
+          → Spec.matching-names (take (i + 1) (take count models)) query tol ≡ Spec.matching-names (take i (take count models)) query tol ++ cond b (getD models i d .model ∷ []) []
+      go true s e = counted b (ltb-true i count s) e
+      go false s e =
+          passed (ltb-false i count s)
+          ∙ sym (append-nil (Spec.matching-names (take i (take count models)) query tol))
+          ∙ ap (λ (t : Bool). Spec.matching-names (take i (take count models)) query tol ++ cond t (getD models i d .model ∷ []) []) e
+
+no-names-requires : tie.Need-no-names-requires Inv-loop μ-loop Inv-loop2 μ-loop2
 no-names-requires c κs = search needs
 
-places-requires : tie.Need-places-requires Inv-loop μ-loop
-places-requires c κs = search needs
-
-loop-holds : tie.Need-loop-holds Inv-loop μ-loop
+loop-holds : tie.Need-loop-holds Inv-loop μ-loop Inv-loop2 μ-loop2
 unfolding Spec.matching-names keep
-loop-holds c = (search needs, search needs, record { count = refl; places = ap (λ (names : Names). names .names) (c .before .no-names .ensures) })
+loop-holds c = (search needs, search needs, record { count = refl; places = ap (λ (names : Names). names .names) (c .no-names .ensures) })
 
-mul-spec : tie.Need-mul-spec Inv-loop μ-loop
-mul-spec c = omega (arith, c .before .before .places .ensures)
+mul-spec : tie.Need-mul-spec Inv-loop μ-loop Inv-loop2 μ-loop2
+mul-spec c = omega arith
 
-element-copy-out-spec : tie.Need-element-copy-out-spec Inv-loop μ-loop
-element-copy-out-spec c = omega (arith, c .before .before .places .ensures)
+element-copy-out-spec : tie.Need-element-copy-out-spec Inv-loop μ-loop Inv-loop2 μ-loop2
+element-copy-out-spec c = omega arith
 
-matches-requires : tie.Need-matches-requires Inv-loop μ-loop
-matches-requires c κs = search needs
+counts-requires : tie.Need-counts-requires Inv-loop μ-loop Inv-loop2 μ-loop2
+counts-requires c κs = search needs
 
-mul-name : tie.Need-mul-name Inv-loop μ-loop
-mul-name c = omega (arith, c .before .before .before .before .before .before .places .ensures)
+mul-name : tie.Need-mul-name Inv-loop μ-loop Inv-loop2 μ-loop2
+mul-name c = omega arith
 
-element-set-from-name : tie.Need-element-set-from-name Inv-loop μ-loop
-element-set-from-name c = omega (arith, c .before .before .before .before .before .before .places .ensures)
+element-set-from-name : tie.Need-element-set-from-name Inv-loop μ-loop Inv-loop2 μ-loop2
+element-set-from-name c = omega arith
 
-add-n : tie.Need-add-n Inv-loop μ-loop
-add-n c = omega (arith, c .before .before .before .before .before .before .places .ensures)
+add-n : tie.Need-add-n Inv-loop μ-loop Inv-loop2 μ-loop2
+add-n c = omega arith
 
-add-i : tie.Need-add-i Inv-loop μ-loop
-add-i c = omega (arith, c .before .before .before .before .before .places .ensures)
+add-i : tie.Need-add-i Inv-loop μ-loop Inv-loop2 μ-loop2
+add-i c = omega arith
 
-loop-less : tie.Need-loop-less Inv-loop μ-loop
+loop-less : tie.Need-loop-less Inv-loop μ-loop Inv-loop2 μ-loop2
 loop-less c = omega arith
 
-loop-again : tie.Need-loop-again Inv-loop μ-loop
+loop-again : tie.Need-loop-again Inv-loop μ-loop Inv-loop2 μ-loop2
 loop-again c =
     let l = c .before .before .before .before .loop in
-    let a = c .before .before .before .before .before .before .before in
-    let below : l .i < length (a .args .t1 .models) = subst (λ (k : ℕ). l .i < k) (sym (sixteen-models (a .args .t1) _ (a .good .0))) (omega (arith, c .before .before .before .before .before .places .ensures)) in
-    let grown = with-next (a .args .t1 .models) (a .args .query) (a .args .tol) (l .i) _ below in
+    let a = c .before .before .before .before .before .before in
+    let sixteen = sixteen-models (a .args .t1) _ (a .good .0) in
+    let grown = with-next (a .args .t1 .models) (a .args .count) (a .args .query) (a .args .tol) (l .i) _ (subst (λ (k : ℕ). l .i < k) (sym sixteen) (omega arith)) in
     ⊎-elim
     (λ w. (
       omega arith,
       omega (arith, w .3),
-      holds-like (holds-next _ (l .inv .2) (omega (arith, c .before .before .before .before .before .places .ensures))) (sym (grown true (sym (c .before .matches .ensures) ∙ w .0 .taken))) (w .3) (ap (λ (f : Names). f .names) (w .2)),
+      holds-like (holds-next _ (l .inv .2) (omega arith)) (sym (grown true (sym (c .before .counts .ensures) ∙ w .0 .taken))) (w .3) (ap (λ (f : Names). f .names) (w .2)),
     ))
     (λ w. (
       omega arith,
       omega (arith, w .2),
-      holds-like (l .inv .2) (sym (append-nil _) ∙ sym (grown false (sym (c .before .matches .ensures) ∙ w .0 .left))) (w .2) (ap (λ (f : Names). f .names) (w .1)),
+      holds-like (l .inv .2) (sym (append-nil _) ∙ sym (grown false (sym (c .before .counts .ensures) ∙ w .0 .left))) (w .2) (ap (λ (f : Names). f .names) (w .1)),
     ))
     (c .if1 .came)
 
-cast-found : tie.Need-cast-found Inv-loop μ-loop
-cast-found c = omega (arith, c .before .before .places .ensures)
+loop2-holds : tie.Need-loop2-holds Inv-loop μ-loop Inv-loop2 μ-loop2
+loop2-holds c = (omega arith, c .before .loop .inv .1, c .before .loop .inv .2)
 
-returns : tie.Need-returns Inv-loop μ-loop
+mul-spec-2 : tie.Need-mul-spec-2 Inv-loop μ-loop Inv-loop2 μ-loop2
+mul-spec-2 c = omega arith
+
+element-copy-out-spec-2 : tie.Need-element-copy-out-spec-2 Inv-loop μ-loop Inv-loop2 μ-loop2
+element-copy-out-spec-2 c = omega arith
+
+counts-requires-2 : tie.Need-counts-requires-2 Inv-loop μ-loop Inv-loop2 μ-loop2
+counts-requires-2 c κs = search needs
+
+mul-name-2 : tie.Need-mul-name-2 Inv-loop μ-loop Inv-loop2 μ-loop2
+mul-name-2 c = omega arith
+
+element-set-from-name-2 : tie.Need-element-set-from-name-2 Inv-loop μ-loop Inv-loop2 μ-loop2
+element-set-from-name-2 c = omega arith
+
+add-n-2 : tie.Need-add-n-2 Inv-loop μ-loop Inv-loop2 μ-loop2
+add-n-2 c = omega arith
+
+add-i-2 : tie.Need-add-i-2 Inv-loop μ-loop Inv-loop2 μ-loop2
+add-i-2 c = omega arith
+
+loop2-less : tie.Need-loop2-less Inv-loop μ-loop Inv-loop2 μ-loop2
+loop2-less c = omega arith
+
+loop2-again : tie.Need-loop2-again Inv-loop μ-loop Inv-loop2 μ-loop2
+loop2-again c =
+    let l = c .before .before .before .before .loop2 in
+    let a = c .before .before .before .before .before .before .before .before in
+    let sixteen = sixteen-models (a .args .t1) _ (a .good .0) in
+    let grown = with-next (a .args .t1 .models) (a .args .count) (a .args .query) (a .args .tol) (l .i) _ (subst (λ (k : ℕ). l .i < k) (sym sixteen) (omega arith)) in
+    ⊎-elim
+    (λ w. (
+      omega arith,
+      omega (arith, w .3),
+      holds-like (holds-next _ (l .inv .2) (omega arith)) (sym (grown true (sym (c .before .counts2 .ensures) ∙ w .0 .taken))) (w .3) (ap (λ (f : Names). f .names) (w .2)),
+    ))
+    (λ w. (
+      omega arith,
+      omega (arith, w .2),
+      holds-like (l .inv .2) (sym (append-nil _) ∙ sym (grown false (sym (c .before .counts2 .ensures) ∙ w .0 .left))) (w .2) (ap (λ (f : Names). f .names) (w .1)),
+    ))
+    (c .if2 .came)
+
+cast-found : tie.Need-cast-found Inv-loop μ-loop Inv-loop2 μ-loop2
+cast-found c = omega arith
+
+returns : tie.Need-returns Inv-loop μ-loop Inv-loop2 μ-loop2
 returns c =
-    let l = c .before .loop in
-    let a = c .before .before .before .before in
+    let l = c .before .loop2 in
+    let a = c .before .before .before .before .before in
     holds-all
     (holds-like (l .inv .2)
     (ap (λ (specs : List MotorModelSpec). Spec.matching-names specs (a .args .query) (a .args .tol))
-    (ap (λ (k : ℕ). take k (a .args .t1 .models)) (le-antisymm (l .inv .0) (c .loop-test .left) ∙ c .before .before .places .ensures)
-    ∙ take-min (a .args .t1 .count) 16 (a .args .t1 .models) (sixteen-models (a .args .t1) _ (a .good .0))))
+    (take-all (l .i) (take (a .args .count) (a .args .t1 .models))
+    (le-trans (le-of-eq (length-take (a .args .count) (a .args .t1 .models)))
+    (le-trans (min-le-right (a .args .count) (length (a .args .t1 .models)))
+    (le-trans (le-of-eq (sixteen-models (a .args .t1) _ (a .good .0))) (c .loop2-test .left))))))
     refl refl)
 
 pub matching-names-spec : {M : Type 1} → statement M
@@ -114,17 +198,28 @@ matching-names-spec =
     (tie.spec
     Inv-loop
     μ-loop
+    Inv-loop2
+    μ-loop2
     no-names-requires
-    places-requires
     loop-holds
     mul-spec
     element-copy-out-spec
-    matches-requires
+    counts-requires
     mul-name
     element-set-from-name
     add-n
     add-i
     loop-less
     loop-again
+    loop2-holds
+    mul-spec-2
+    element-copy-out-spec-2
+    counts-requires-2
+    mul-name-2
+    element-set-from-name-2
+    add-n-2
+    add-i-2
+    loop2-less
+    loop2-again
     cast-found
     returns)
