@@ -3,9 +3,9 @@ use Prim.Native.Nat.{_-_, _*_, _≤_}
 use mathlib.Core.Path.{_≡_, refl, ap, _∙_}
 use borrow.Author.Needs.{needs}
 use Rattle.models.specs.Models.{damiao-models, list-of}
+use Rattle.models.specs.declared.list.ModelList.{ModelList}
 use Rattle.bench_loops.specs.Loops.{total, _⊞_}
 use Rattle.model_loops.specs.Queries.{names-total, matched}
-use Rattle.model_loops.proofs.Alike.{same-list}
 use Rattle.bench_loops.proofs.Totals.{one-more, reached}
 use Rattle.model_loops.proofs.model_loops_match.Statement.{statement}
 use Rattle.model_loops.proofs.model_loops_match.Tie as tie
@@ -23,14 +23,11 @@ loop-holds : tie.Need-loop-holds Inv-loop μ-loop
 unfolding total
 loop-holds c = (search needs, refl)
 
-mul-matched : tie.Need-mul-matched Inv-loop μ-loop
-mul-matched c = search needs
+mul-matched-total : tie.Need-mul-matched-total Inv-loop μ-loop
+mul-matched-total c = search needs
 
-matched-requires : tie.Need-matched-requires Inv-loop μ-loop
-matched-requires c κs = search needs
-
-names-total-requires : tie.Need-names-total-requires Inv-loop μ-loop
-names-total-requires c κs = search needs
+matched-total-requires : tie.Need-matched-total-requires Inv-loop μ-loop
+matched-total-requires c κs = search needs
 
 wrapping-add-u64-requires : tie.Need-wrapping-add-u64-requires Inv-loop μ-loop
 wrapping-add-u64-requires c κs = search needs
@@ -44,10 +41,9 @@ loop-less c = search needs
 loop-again : tie.Need-loop-again Inv-loop μ-loop
 loop-again c =
     let totalled = c .before in
-    let listed = totalled .before in
-    let at-loop = listed .before .before in
-    let right = same-list matched (at-loop .before .damiao-models .result) _ (at-loop .before .before .before .args .xs .now) (at-loop .loop .k * 4) _ (listed .matched .ensures) (at-loop .before .damiao-models .ensures) in
-    (search needs, c .wrapping-add-u64 .ensures ∙ one-more _⊞_ 0 _ _ _ _ (at-loop .loop .inv .1) (totalled .names-total .ensures ∙ ap names-total right))
+    let at-loop = totalled .before .before in
+    let right = ap (λ (list : ModelList). names-total (matched list (at-loop .before .before .before .args .xs .now) (at-loop .loop .k * 4))) (at-loop .before .damiao-models .ensures) in
+    (search needs, c .wrapping-add-u64 .ensures ∙ one-more _⊞_ 0 _ _ _ _ (at-loop .loop .inv .1) (totalled .matched-total .ensures ∙ right))
 
 returns : tie.Need-returns Inv-loop μ-loop
 returns c = reached _⊞_ 0 _ _ _ _ (c .before .loop .inv .0) (c .loop-test .left) (c .before .loop .inv .1)
@@ -60,9 +56,8 @@ model-loops-match-spec =
     μ-loop
     damiao-models-requires
     loop-holds
-    mul-matched
-    matched-requires
-    names-total-requires
+    mul-matched-total
+    matched-total-requires
     wrapping-add-u64-requires
     add-k
     loop-less
