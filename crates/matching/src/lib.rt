@@ -1,4 +1,5 @@
-// The models whose limits match a query.
+// The models whose limits match a query: each of the three within the tolerance. The list is handed in
+// as a value.
 ghost use mathlib.Core.Path.{_≡_};
 ghost use mathlib.Core.Bool.{cond, _&&_};
 ghost use Prim.Native.Nat.{min};
