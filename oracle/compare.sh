@@ -15,6 +15,6 @@ case ${2:-1000000} in
     *) extent="--lines ${2:-1000000}" ;;
 esac
 cargo build --release --offline --quiet --manifest-path "$here/Cargo.toml"
-exec "$here/target/release/oracle" compare --drive "exec '$drive'" \
+exec "$here/target/release/oracle" compare --drive "exec '$drive' 2> /dev/null" \
     $extent --kinds "${3:-all}" --seed "${4:-1}" \
     --without "${5:-}" --keep "$here/target/differs.script"

@@ -27,7 +27,7 @@ fail() { # WHAT
 
 row() { # NAME FILE: runs the drive on a file
     ended=0
-    timeout 600 /usr/bin/time -q -o used -f '%U %S %M' "$drive" < "$2" > answers || ended=$?
+    timeout 600 /usr/bin/time -q -o used -f '%U %S %M' "$drive" < "$2" > answers 2> /dev/null || ended=$?
     "$oracle" run < "$2" > expected
     read -r user system peak < used
     seconds=$(echo "$user $system" | awk '{ printf "%.2f", $1 + $2 }')
@@ -101,7 +101,7 @@ echo "$seconds10 $seconds100" | awk '{ exit !($2 <= 15 * $1 + 0.5) }' || fail "1
 # Reads of few bytes.
 head -c 3000000 script2 > part
 "$oracle" run < part > expected
-dd if=part obs=61 status=none | timeout 600 "$drive" > answers || fail 'reads of few bytes: status'
+dd if=part obs=61 status=none | timeout 600 "$drive" > answers 2> /dev/null || fail 'reads of few bytes: status'
 cmp answers expected || fail 'reads of few bytes: answers otherwise'
 
 # Ends that are closed or full. Where nobody takes the answers the drive must end, with 0, with 1 or by the signal.
@@ -111,12 +111,12 @@ end() { # NAME STATUS
         *) fail "$1: ended with $2" ;;
     esac
 }
-{ ended=0; timeout 60 "$drive" < part || ended=$?; echo $ended > used; } | head -1 > answers
+{ ended=0; timeout 60 "$drive" < part 2> /dev/null || ended=$?; echo $ended > used; } | head -1 > answers
 end 'output closed after a line' "$(cat used)"
 head -1 expected | cmp - answers || fail 'output closed after a line: answers otherwise'
-ended=0; timeout 60 "$drive" < part > /dev/full || ended=$?; end 'output full' $ended
-ended=0; timeout 60 "$drive" < part >&- || ended=$?; end 'no output' $ended
-ended=0; timeout 60 "$drive" <&- > answers || ended=$?; end 'no input' $ended
+ended=0; timeout 60 "$drive" < part 2> /dev/null > /dev/full || ended=$?; end 'output full' $ended
+ended=0; timeout 60 "$drive" < part 2> /dev/null >&- || ended=$?; end 'no output' $ended
+ended=0; timeout 60 "$drive" <&- > answers 2> /dev/null || ended=$?; end 'no input' $ended
 [ ! -s answers ] || fail 'no input: answers'
 
 echo "$failed failed"

@@ -1,14 +1,15 @@
-//! A checksum of all that a frame may change in the original's motor.
+//! Checksums: of numbers, and of all that a frame may change in the original's motor.
 
 use motor_vendor_damiao::motor::adapter::Entry;
 use motor_vendor_damiao::motor::{DamiaoMotor, MotorFeedbackState, RegisterValue};
 
-/// Three times what came before, and the next number.
-pub fn mixed(numbers: &[u64]) -> u64 {
-    let (first, others) = numbers.split_first().expect("a number");
-    others
-        .iter()
-        .fold(*first, |sum, next| sum.wrapping_mul(3).wrapping_add(*next))
+/// Three times the sum, and the next number: every weight is odd, so each number counts.
+pub fn next(sum: u64, number: u64) -> u64 {
+    sum.wrapping_mul(3).wrapping_add(number)
+}
+
+fn mixed(numbers: &[u64]) -> u64 {
+    numbers.iter().fold(0, |sum, number| next(sum, *number))
 }
 
 pub fn motor_total(motor: &DamiaoMotor, last: u64) -> u64 {

@@ -1,6 +1,7 @@
 //! The original's motor takes frames, each with its place as the clock's reading.
 
 use crate::checksum::motor_total;
+use crate::inputs::Frame;
 use motor_core::bus::{CanBus, CanFrame};
 use motor_core::device::MotorDevice;
 use motor_core::error::Result;
@@ -26,14 +27,14 @@ impl CanBus for IdleBus {
 }
 
 #[inline(never)]
-pub fn take(frames: &[u8]) -> u64 {
+pub fn take(frames: &[Frame]) -> u64 {
     let motor = DamiaoMotor::new(1, 0x11, "4310", Arc::new(IdleBus)).expect("a model's name");
     let mut last = 0;
-    for (place, data) in (0..).zip(frames.chunks_exact(8)) {
+    for (place, data) in (0..).zip(frames) {
         last = place;
         let frame = CanFrame {
             arbitration_id: 0x11,
-            data: data.try_into().expect("eight bytes"),
+            data: *data,
             dlc: 8,
             is_extended: false,
             is_rx: true,

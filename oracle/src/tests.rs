@@ -448,7 +448,7 @@ fn random_scripts_leave_out_calls() {
 #[test]
 fn bench_cases_of_the_model_list() {
     use motor_vendor_damiao::motor::{display_models, model_limits, suggest_models_by_limits};
-    let printed = include_str!("../../crates/bench_cases/stdout");
+    let printed = include_str!("../../crates/cases/stdout");
     let limits = |name: &str| match model_limits(name) {
         Some((p, v, t)) => format!(
             "limits of {name} {:08x} {:08x} {:08x}",

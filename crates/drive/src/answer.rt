@@ -1,4 +1,4 @@
-// The answer to a call that needs no session, put into the output with its newline.
+// The answer to a call that needs no session, put into the output.
 use crate::commands;
 use crate::listing;
 use crate::reports;
@@ -6,21 +6,16 @@ use script::Call;
 use script::calls;
 use text::put;
 
-pub(crate) fn answer_call(call: Call, output: &mut [u8], to: usize) -> usize {
-    let code = call.code;
-    if code == calls::NOTHING {
-        return to;
-    }
-    let at = answer(call, output, to);
-    put(output, at, b"\n")
-}
+// In the place of a call on the session, where none has started.
+pub(crate) const NO_SESSION: u64 = 253;
 
-fn answer(call: Call, output: &mut [u8], to: usize) -> usize {
+pub(crate) fn answer(call: Call, output: &mut [u8], to: usize) -> usize {
     let code = call.code;
     match code {
         calls::MIT..=calls::CLEAR => commands::put_command(commands::made(call), output, to),
         calls::MATCH | calls::SUGGEST => listing::answer(call, output, to),
         calls::BAD => put(output, to, b"bad line"),
+        NO_SESSION => put(output, to, b"no session"),
         _ => reports::answer(call, output, to),
     }
 }

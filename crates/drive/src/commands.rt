@@ -1,12 +1,12 @@
 // The calls that make a command frame.
-use crate::fields::bits;
-use crate::fields::low8;
-use crate::fields::low16;
-use crate::fields::low32;
-use crate::fields::real;
+use crate::fields::bits_at;
+use crate::fields::real_at;
+use crate::fields::u8_at;
+use crate::fields::u16_at;
+use crate::fields::u32_at;
 use crate::print::put_numbered;
 use crate::print::put_refused;
-use frame::Command;
+use protocol_frame::Command;
 use script::Call;
 use script::calls;
 use text::put;
@@ -15,35 +15,46 @@ use text::put_hex;
 // The frame that a call of a command makes.
 pub(crate) fn made(call: Call) -> Command {
     let code = call.code;
-    let a = call.args;
-    let motor_id = low16(a[0]);
+    let motor_id = u16_at(call, 0);
     match code {
         calls::MIT => mit(call),
-        calls::POS_VEL => setpoint::pos_vel_cmd(motor_id, bits(a[1]), bits(a[2])),
-        calls::VEL => setpoint::vel_cmd(motor_id, bits(a[1])),
-        calls::FORCE_POS => setpoint::force_pos_cmd(motor_id, bits(a[1]), real(a[2]), real(a[3])),
-        calls::READ_REG => request::register_read_cmd(motor_id, low8(a[1])),
-        calls::WRITE_REG => request::register_write_cmd(motor_id, low8(a[1]), low32(a[2])),
-        calls::STORE_PARAMS => request::store_params_cmd(motor_id),
-        calls::FEEDBACK_REQUEST => request::feedback_request_cmd(motor_id),
-        calls::DISABLE => request::disable_cmd(motor_id),
-        calls::ZERO => request::set_zero_cmd(motor_id),
-        _ => request::clear_error_cmd(motor_id),
+        calls::POS_VEL => protocol_setpoint::pos_vel_cmd(
+            motor_id,
+            bits_at(call, 1),
+            bits_at(call, 2),
+        ),
+        calls::VEL => protocol_setpoint::vel_cmd(motor_id, bits_at(call, 1)),
+        calls::FORCE_POS => protocol_setpoint::force_pos_cmd(
+            motor_id,
+            bits_at(call, 1),
+            real_at(call, 2),
+            real_at(call, 3),
+        ),
+        calls::READ_REG => protocol_request::register_read_cmd(motor_id, u8_at(call, 1)),
+        calls::WRITE_REG => protocol_request::register_write_cmd(
+            motor_id,
+            u8_at(call, 1),
+            u32_at(call, 2),
+        ),
+        calls::STORE_PARAMS => protocol_request::store_params_cmd(motor_id),
+        calls::FEEDBACK_REQUEST => protocol_request::feedback_request_cmd(motor_id),
+        calls::DISABLE => protocol_request::disable_cmd(motor_id),
+        calls::ZERO => protocol_request::set_zero_cmd(motor_id),
+        _ => protocol_request::clear_error_cmd(motor_id),
     }
 }
 
 fn mit(call: Call) -> Command {
-    let a = call.args;
-    setpoint::mit_cmd(
-        low16(a[0]),
-        real(a[1]),
-        real(a[2]),
-        real(a[3]),
-        real(a[4]),
-        real(a[5]),
-        real(a[6]),
-        real(a[7]),
-        real(a[8]),
+    protocol_setpoint::mit_cmd(
+        u16_at(call, 0),
+        real_at(call, 1),
+        real_at(call, 2),
+        real_at(call, 3),
+        real_at(call, 4),
+        real_at(call, 5),
+        real_at(call, 6),
+        real_at(call, 7),
+        real_at(call, 8),
     )
 }
 

@@ -1,217 +1,94 @@
-// The lines of the input, however it is cut by the reads, and the output, which is written after each
-// read, or once there is much of it.
-use crate::answer;
-use crate::replies::put_line;
-use crate::session_text::put_state;
+// The lines of the input are answered one after another. What is written gathers until the next read,
+// or until there is much of it.
+use crate::answer::NO_SESSION;
+use crate::answer::answer;
+use crate::input::Place;
+use crate::input::before_first;
+use crate::input::complain;
+use crate::input::line_at;
+use crate::input::next_line;
+use crate::notes::note;
 use crate::sessions;
-use crate::sessions::State;
 use crate::sessions::unstarted;
 use libc::STDERR_FILENO;
-use libc::STDIN_FILENO;
 use libc::STDOUT_FILENO;
 use script::Call;
-use script::MAX_LINE;
 use script::calls;
+use script::faults;
+use text::put;
 ghost use Prim.Native.Nat.{_-_, _≤_};
-ghost use lib.ListN.{length};
 
 // The output is written once it has so many bytes. The rest of its buffer has room for any answer;
 // the longest, a session that holds every entry, has some 4,000 bytes.
 const FULL: usize = 49_152;
 
-// After the whole lines of a text: where the unfinished line starts, whether it is the rest of one
-// that is too long, the session in use, and where the output goes on.
-struct Progress {
-    from: usize,
-    is_long: bool,
-    state: State,
-    to: usize,
-}
-
-// An unfinished line: so many bytes at the front of the input, or one that is too long, of which
-// none are kept.
-struct Unfinished {
-    held: usize,
-    is_long: bool,
-}
-
 // Reads and answers to the end of the input, or until an answer cannot be written. A proved loop has
 // to end, and nothing says that the input does, so the turns are counted down from a number that no
-// run uses up.
-pub(crate) fn run(input: &mut [u8], output: &mut [u8]) {
-    let mut held = 0;
-    let mut is_long = false;
+// run uses up. The session is large, so that only the calls on it copy it.
+pub(crate) fn run(input: &mut [u8], output: &mut [u8], notes: &mut [u8]) {
     let mut state = unstarted();
-    let mut to = 0;
+    let mut place = before_first();
+    let mut noted = 0;
     let mut turns = u64::MAX;
     while turns > 0 {
-        let end = read_after(input, held);
-        if end <= held {
-            break;
+        place = next_line(input, place);
+        let line = line_at(input, place);
+        let call = call_of(line, place.is_long, state.is_started);
+        if call.code <= calls::SESSION {
+            state = sessions::answer(state, call, line, output);
         }
-        let done = whole_lines(&input[0..end], is_long, state, output, to);
-        let rest = keep_rest(input, done.from, end, done.is_long);
-        let after = done.state;
-        state = after;
-        held = rest.held;
-        is_long = rest.is_long;
-        to = rest_after(output, done.to);
-        turns = turns_left(turns, to);
+        state.to = end_answer(call, output, state.to, place.is_dry);
+        noted = put_note(call, line, place, notes, noted);
+        turns = turns_left(turns, place, state.to);
     }
-    let end = last_line(input, held, is_long, state, output, to);
-    finish(output, end);
+    finish(state.to);
 }
 
-// None once answers could not be written.
-fn turns_left(turns: u64, unwritten: usize) -> u64
-    ensures { λ r. ⌜ r ≤ turns - 1 ⌝ }
-{
-    if unwritten > 0 {
-        return 0;
-    }
-    if turns > 0 { turns - 1 } else { 0 }
-}
-
-fn finish(output: &[u8], to: usize) {
-    if rest_after(output, to) > 0 {
-        complain(b"drive: the output cannot be written\n");
-    }
-}
-
-fn complain(line: &[u8]) {
-    io::write_all(STDERR_FILENO, line);
-}
-
-// Reads once, after the bytes that are held, and answers where the bytes end.
-fn read_after(input: &mut [u8], held: usize) -> usize
-    ensures { λ r. ⌜ r ≤ length (now (input .exit)) ⌝ }
-{
-    if held >= input.len() {
-        return 0;
-    }
-    let got = libc::read(STDIN_FILENO, &mut input[held..]);
-    if got < 0 {
-        complain(b"drive: the input cannot be read\n");
-    }
-    let n = io::count(got, &input[held..]);
-    held + n
-}
-
-// Answers each line of `chunk` that ends in a newline. The first may be the rest of a long one. The
-// session is large, so that only the calls on it copy it.
-fn whole_lines(
-    chunk: &[u8],
-    is_long: bool,
-    state: State,
-    output: &mut [u8],
-    to: usize,
-) -> Progress {
-    let mut from = 0;
-    let mut long = is_long;
-    let mut state = state;
-    let mut at = to;
-    while from < chunk.len() {
-        let end = words::index_of(chunk, from, b'\n');
-        if end >= chunk.len() {
-            break;
-        }
-        let line = &chunk[from..end];
-        let call = call_of(line, long);
-        at = write_if_full(output, at);
-        let code = call.code;
-        if code < calls::SESSION {
-            let step = sessions::answer(state, call, line);
-            let reply = step.reply;
-            let after = step.state;
-            state = after;
-            at = put_line(reply, output, at);
-        } else if code == calls::SESSION {
-            at = put_state(state, output, at);
-        } else {
-            at = answer::answer_call(call, output, at);
-        }
-        long = false;
-        from = end + 1;
-    }
-    Progress {
-        from,
-        is_long: long,
-        state,
-        to: at,
-    }
-}
-
-fn call_of(line: &[u8], is_long: bool) -> Call {
+fn call_of(line: &[u8], is_long: bool, is_started: bool) -> Call {
     if is_long {
         return Call {
             code: calls::BAD,
-            args: [0u64; 9],
+            args: [faults::LONG_LINE, 0, 0, 0, 0, 0, 0, 0, 0],
         };
     }
-    script::parse(line)
+    let mut call = script::parse(line);
+    call.code = code_for(call.code, is_started);
+    call
 }
 
-// Answers the last line, which no newline ends: one is put after it.
-fn last_line(
-    input: &mut [u8],
-    held: usize,
-    is_long: bool,
-    state: State,
-    output: &mut [u8],
-    to: usize,
-) -> usize {
-    if held >= input.len() {
+fn code_for(code: u64, is_started: bool) -> u64 {
+    if is_started {
+        return code;
+    }
+    match code {
+        calls::GET_U32..=calls::SESSION => NO_SESSION,
+        _ => code,
+    }
+}
+
+// Puts the answer where the call is none on the session, and its newline, writes out what has gathered
+// if more is to be read or it is much, and answers where the output goes on.
+fn end_answer(call: Call, output: &mut [u8], to: usize, is_dry: bool) -> usize {
+    let at = put_answer(call, output, to);
+    if is_dry {
+        return rest_after(output, at);
+    }
+    if at < FULL {
+        return at;
+    }
+    rest_after(output, at)
+}
+
+fn put_answer(call: Call, output: &mut [u8], to: usize) -> usize {
+    let code = call.code;
+    if code == calls::NOTHING {
         return to;
     }
-    input[held] = b'\n';
-    let done = whole_lines(&input[0..held + 1], is_long, state, output, to);
-    done.to
-}
-
-// Keeps the unfinished line, from `from` to `end`.
-fn keep_rest(input: &mut [u8], from: usize, end: usize, is_long: bool) -> Unfinished {
-    if is_long {
-        return Unfinished {
-            held: 0,
-            is_long: true,
-        };
+    if code <= calls::SESSION {
+        return put(output, to, b"\n");
     }
-    if from < end {
-        if end - from > MAX_LINE {
-            return Unfinished {
-                held: 0,
-                is_long: true,
-            };
-        }
-    }
-    let held = move_to_front(input, from, end);
-    Unfinished {
-        held,
-        is_long: false,
-    }
-}
-
-// Moves the bytes from `from` to `end` to the front, and answers how many there are.
-fn move_to_front(input: &mut [u8], from: usize, end: usize) -> usize {
-    let mut i = 0;
-    let mut j = from;
-    while j < end {
-        if j >= input.len() {
-            return i;
-        }
-        input[i] = input[j];
-        i += 1;
-        j += 1;
-    }
-    i
-}
-
-// Writes out what has gathered if it is much, and answers where the output goes on.
-fn write_if_full(output: &[u8], to: usize) -> usize {
-    if to < FULL {
-        return to;
-    }
-    rest_after(output, to)
+    let at = answer(call, output, to);
+    put(output, at, b"\n")
 }
 
 // Writes out what has gathered, and answers what is left of it: nothing, or all where a write failed.
@@ -222,4 +99,39 @@ fn rest_after(output: &[u8], to: usize) -> usize {
         }
     }
     to
+}
+
+// The same for what is said of bad lines on standard error. What cannot be written there is dropped.
+fn put_note(call: Call, line: &[u8], place: Place, notes: &mut [u8], to: usize) -> usize {
+    let at = note(call, line, place.number, notes, to);
+    if !place.is_dry {
+        if at < FULL {
+            return at;
+        }
+    }
+    if at <= notes.len() {
+        io::write_all(STDERR_FILENO, &notes[0..at]);
+    }
+    0
+}
+
+// None once the last line is answered, or answers could not be written.
+fn turns_left(turns: u64, place: Place, unwritten: usize) -> u64
+    ensures { λ r. ⌜ r ≤ turns - 1 ⌝ }
+{
+    if place.is_dry {
+        if place.is_last {
+            return 0;
+        }
+        if unwritten > 0 {
+            return 0;
+        }
+    }
+    if turns > 0 { turns - 1 } else { 0 }
+}
+
+fn finish(unwritten: usize) {
+    if unwritten > 0 {
+        complain(b"drive: the output cannot be written\n");
+    }
 }

@@ -1,18 +1,19 @@
 // The calls on the list of models.
-use crate::fields::real;
+use crate::fields::real_at;
+use crate::fields::u64_at;
 use crate::print::put_name;
 use crate::print::put_refused;
-use matching::match_models_by_limits;
+use model_list::Names;
+use model_list::damiao_models;
+use model_list::places;
+use model_match::match_models_by_limits;
 use model_query::Listing;
-use model_query::Outcome;
-use models::list::Maxima;
-use models::list::Names;
-use models::list::damiao_models;
-use models::list::places;
+use model_query::Query;
+use model_query::QueryOutcome;
+use model_suggest::suggest_models_by_limits;
 use motor_core::name::Name;
 use script::Call;
 use script::calls;
-use suggestion::suggest_models_by_limits;
 use text::put;
 
 pub(crate) fn answer(call: Call, output: &mut [u8], to: usize) -> usize {
@@ -23,31 +24,28 @@ pub(crate) fn answer(call: Call, output: &mut [u8], to: usize) -> usize {
     }
 }
 
-fn query(call: Call) -> Maxima {
-    let a = call.args;
-    Maxima {
-        p_max: real(a[0]),
-        v_max: real(a[1]),
-        t_max: real(a[2]),
+fn query(call: Call) -> Query {
+    Query {
+        p: real_at(call, 0),
+        v: real_at(call, 1),
+        t: real_at(call, 2),
     }
 }
 
 fn matched(call: Call) -> Listing {
-    let a = call.args;
-    match_models_by_limits(damiao_models(), query(call), real(a[3]))
+    match_models_by_limits(damiao_models(), query(call), real_at(call, 3))
 }
 
 fn suggested(call: Call) -> Listing {
-    let a = call.args;
-    suggest_models_by_limits(damiao_models(), query(call), a[3] as usize)
+    suggest_models_by_limits(damiao_models(), query(call), u64_at(call, 3) as usize)
 }
 
 fn put_listing(listing: Listing, output: &mut [u8], to: usize) -> usize {
     let outcome = listing.outcome;
     let names = listing.names;
     match outcome {
-        Outcome::Listed => put_names(names, output, to),
-        Outcome::Refused(number) => put_refused(number, output, to),
+        QueryOutcome::Listed => put_names(names, output, to),
+        QueryOutcome::Refused(number) => put_refused(number, output, to),
     }
 }
 

@@ -1,6 +1,6 @@
 // Pieces of answers.
-use received::status::StatusName;
-use received::status::status_text;
+use protocol_status::StatusName;
+use protocol_status::status_text;
 use text::put;
 use text::put_decimal;
 use text::put_hex;

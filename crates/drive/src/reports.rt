@@ -1,14 +1,15 @@
 // The calls on what a frame says, and on the tables of status names and registers.
-use crate::fields::low8;
-use crate::fields::real;
+use crate::fields::real_at;
+use crate::fields::u8_at;
+use crate::fields::u64_at;
 use crate::print::put_measured;
 use crate::print::put_next;
 use crate::print::put_numbered;
 use crate::print::put_refused;
 use crate::print::put_status_name;
-use received::feedback::Decoded;
-use received::feedback::FrameClass;
-use received::feedback::SensorFeedback;
+use protocol_received::Decoded;
+use protocol_received::FrameClass;
+use protocol_received::SensorFeedback;
 use registers::RegisterAccess;
 use registers::RegisterDataType;
 use registers::RegisterInfo;
@@ -18,22 +19,25 @@ use text::put;
 
 pub(crate) fn answer(call: Call, output: &mut [u8], to: usize) -> usize {
     let code = call.code;
-    let a = call.args;
     match code {
         calls::DECODE => put_decoded(decoded(call), output, to),
-        calls::SORT => put_class(class(a[0]), output, to),
-        calls::STATUS_NAME => put_status(low8(a[0]), output, to),
-        _ => put_register(registers::register_info(low8(a[0])), output, to),
+        calls::SORT => put_class(class(u64_at(call, 0)), output, to),
+        calls::STATUS_NAME => put_status(u8_at(call, 0), output, to),
+        _ => put_register(registers::register_info(u8_at(call, 0)), output, to),
     }
 }
 
 fn decoded(call: Call) -> Decoded {
-    let a = call.args;
-    received::feedback::decode_feedback(real(a[0]), real(a[1]), real(a[2]), frame::data_bytes(a[3]))
+    protocol_received::decode_feedback(
+        real_at(call, 0),
+        real_at(call, 1),
+        real_at(call, 2),
+        protocol_frame::data_bytes(u64_at(call, 3)),
+    )
 }
 
 fn class(data: u64) -> FrameClass {
-    received::feedback::frame_class(frame::data_bytes(data))
+    protocol_received::frame_class(protocol_frame::data_bytes(data))
 }
 
 fn put_decoded(decoded: Decoded, output: &mut [u8], to: usize) -> usize {
@@ -67,7 +71,7 @@ fn put_class(class: FrameClass, output: &mut [u8], to: usize) -> usize {
 
 fn put_status(status: u8, output: &mut [u8], to: usize) -> usize {
     let at = put(output, to, b"status");
-    put_status_name(received::status::status_name(status), output, at)
+    put_status_name(protocol_status::status_name(status), output, at)
 }
 
 fn put_register(info: RegisterInfo, output: &mut [u8], to: usize) -> usize {

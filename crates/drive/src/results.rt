@@ -1,24 +1,31 @@
-// What a run is told: its next want, or its result.
+// What a start or an answer returns: the run's next want, or its result.
 use crate::print::put_numbered;
 use crate::print::put_refused;
 use crate::values::put_feedback_state;
 use crate::values::put_value;
-use feedback::MotorFeedbackState;
-use machine::RunResult;
 use motor_core::time::Duration;
 use registers::RegisterValue;
-use runs::Told;
+use run_machine::RunResult;
+use run_want::Failure;
+use session_answer::Told;
+use session_answer::Wanted;
+use state_feedback::MotorFeedbackState;
 use text::put;
 use text::put_hex;
-use want::Failure;
 
 pub(crate) fn put_told(told: Told, output: &mut [u8], to: usize) -> usize {
     match told {
-        Told::WantClock => put(output, to, b"want clock"),
-        Told::WantSend(id, data) => put_send(id, data, output, to),
-        Told::WantSleep(length) => put_sleep(length, output, to),
+        Told::Want(want) => put_want(want, output, to),
         Told::Result(result) => put_result(result, output, to),
         Told::Refused(number) => put_refused(number, output, to),
+    }
+}
+
+fn put_want(want: Wanted, output: &mut [u8], to: usize) -> usize {
+    match want {
+        Wanted::Clock => put(output, to, b"want clock"),
+        Wanted::Send(id, data) => put_send(id, data, output, to),
+        Wanted::Sleep(length) => put_sleep(length, output, to),
     }
 }
 

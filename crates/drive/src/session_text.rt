@@ -2,50 +2,43 @@
 use crate::print::put_flag;
 use crate::print::put_next;
 use crate::print::put_numbered;
-use crate::replies::Reply;
-use crate::replies::put_line;
-use crate::sessions::State;
 use crate::values::put_feedback_state;
 use crate::values::put_value;
-use cache::Entry;
-use cache::Slot;
-use feedback::FeedbackSnapshot;
-use feedback::Latest;
 use motor_core::time::Instant;
 use registers::RegisterValue;
-use session::Heard;
+use session::Head;
 use session::Phase;
 use session::Run;
 use session::Session;
+use state_cache::Entry;
+use state_cache::Slot;
+use state_feedback::FeedbackSnapshot;
+use state_feedback::Latest;
 use text::put;
 
-// The session in use, with its newline.
-pub(crate) fn put_state(state: State, output: &mut [u8], to: usize) -> usize {
-    if !state.is_started {
-        return put_line(Reply::NoSession, output, to);
-    }
-    let session = state.session;
-    let at = put_session(session, output, to);
-    put(output, at, b"\n")
+pub(crate) fn put_session(session: Session, output: &mut [u8], to: usize) -> usize {
+    let at = put_head(session.head, is_open(session.run), output, to);
+    let at = put_replies(session, output, at);
+    put_acks(session, output, at)
 }
 
-fn put_session(session: Session, output: &mut [u8], to: usize) -> usize {
-    let heard = session.heard;
-    let run = session.run;
+fn put_replies(session: Session, output: &mut [u8], to: usize) -> usize {
     let replies = session.replies;
-    let acks = session.acks;
-    let at = put_heard(heard, run, output, to);
-    let at = put_entries(b" replies", replies, output, at);
-    put_entries(b" acks", acks, output, at)
+    put_entries(b" replies", replies, output, to)
 }
 
-fn put_heard(heard: Heard, run: Run, output: &mut [u8], to: usize) -> usize {
-    let last = heard.last;
-    let feedback = heard.feedback;
+fn put_acks(session: Session, output: &mut [u8], to: usize) -> usize {
+    let acks = session.acks;
+    put_entries(b" acks", acks, output, to)
+}
+
+fn put_head(head: Head, is_open: bool, output: &mut [u8], to: usize) -> usize {
+    let last = head.last;
+    let feedback = head.feedback;
     let latest = feedback.latest;
     let at = put_numbered(output, to, b"session last ", last.0);
     let at = put_numbered(output, at, b" sequence ", feedback.sequence);
-    let at = put_flag(output, at, b" run ", is_open(run));
+    let at = put_flag(output, at, b" run ", is_open);
     put_latest(latest, output, at)
 }
 

@@ -1,163 +1,193 @@
-// The calls on the session, but for the one that prints it.
-use crate::fields::low8;
-use crate::fields::low16;
-use crate::fields::low32;
-use crate::fields::real;
-use crate::replies::Reply;
-use crate::running;
-use models::list::Maxima;
-use models::list::damiao_models;
+// The calls on the session: what each returns goes into the output.
+use crate::fields::real_at;
+use crate::fields::u8_at;
+use crate::fields::u16_at;
+use crate::fields::u32_at;
+use crate::fields::u64_at;
+use crate::print::put_flag;
+use crate::print::put_refused;
+use crate::results::put_told;
+use crate::running::turn;
+use crate::session_text::put_session;
+use model_list::Maxima;
+use model_list::damiao_models;
 use motor_core::bus::CanFrame;
 use motor_core::time::Instant;
-use runs::Turn;
 use script::Call;
 use script::calls;
+use script_words::second_word;
+use session::AfterPatch;
+use session::Head;
 use session::Session;
 use session::accepts_frame;
 use session::patch_latest;
+use session::start::StartOutcome;
 use session::start::Started;
 use session::start::from_limits;
 use session::start::from_model;
 use session::start::no_session;
-use taking::Outcome;
-use taking::Taking;
-use taking::process_feedback_frame;
-use words::second_word;
+use session_frame::AfterFrame;
+use session_frame::FrameOutcome;
+use session_frame::process_feedback_frame;
+use text::put;
 
-// The session in use, once one has started.
+// The session in use, once one has started, and where the output goes on.
 pub(crate) struct State {
-    pub(crate) is_started: bool,
     pub(crate) session: Session,
-}
-
-// The state after a call, and what the call is told.
-pub(crate) struct Step {
-    pub(crate) state: State,
-    pub(crate) reply: Reply,
+    pub(crate) is_started: bool,
+    pub(crate) to: usize,
 }
 
 pub(crate) fn unstarted() -> State {
     State {
-        is_started: false,
         session: no_session(),
+        is_started: false,
+        to: 0,
     }
 }
 
-// A start, or a call on the session: a code below `calls::SESSION`.
-pub(crate) fn answer(state: State, call: Call, line: &[u8]) -> Step {
-    let code = call.code;
-    if code <= calls::START_MODEL {
-        return start(state, started(call, line));
-    }
-    if !state.is_started {
-        return Step {
-            state,
-            reply: Reply::NoSession,
-        };
-    }
-    let session = state.session;
-    answer_in(session, call)
-}
-
-fn answer_in(session: Session, call: Call) -> Step {
+// A start, or a call on a session that has started: a code up to `calls::SESSION`.
+pub(crate) fn answer(state: State, call: Call, line: &[u8], output: &mut [u8]) -> State {
     let code = call.code;
     match code {
-        calls::GET_U32..=calls::MODE => turned(running::started(session, call)),
-        calls::CLOCK..=calls::SLEPT => turned(running::answered(session, call)),
-        calls::FRAME => taken(process_feedback_frame(session, frame_in(call), reading_in(call))),
-        calls::FRAME_LENT => taken(lent::take_frame(session, frame_in(call), reading_in(call))),
-        calls::PATCH => patch(session, call),
-        _ => accepts(session, call),
+        calls::START_LIMITS | calls::START_MODEL => start(state, call, line, output),
+        calls::FRAME | calls::FRAME_LENT => take(state, call, output),
+        calls::PATCH => patch(state, call, output),
+        calls::ACCEPTS => ask(state, call, output),
+        calls::SESSION => show(state, output),
+        _ => run(state, call, output),
+    }
+}
+
+fn state_of(session: Session, is_started: bool, to: usize) -> State {
+    State {
+        session,
+        is_started,
+        to,
+    }
+}
+
+// A start that is refused leaves the session that is in use.
+fn start(state: State, call: Call, line: &[u8], output: &mut [u8]) -> State {
+    let fresh = started(call, line);
+    let outcome = fresh.outcome;
+    let to = put_start(outcome, output, state.to);
+    match outcome {
+        StartOutcome::Started => state_of(fresh.session, true, to),
+        StartOutcome::Refused(_) => state_of(state.session, state.is_started, to),
     }
 }
 
 fn started(call: Call, line: &[u8]) -> Started {
-    let a = call.args;
     if call.code == calls::START_MODEL {
-        return from_model(low16(a[1]), low16(a[2]), damiao_models(), second_word(line));
+        return from_model(
+            u16_at(call, 1),
+            u16_at(call, 2),
+            damiao_models(),
+            second_word(line),
+        );
     }
-    from_limits(
-        low16(a[0]),
-        low16(a[1]),
-        Maxima {
-            p_max: real(a[2]),
-            v_max: real(a[3]),
-            t_max: real(a[4]),
-        },
-    )
+    from_limits(u16_at(call, 0), u16_at(call, 1), maxima(call))
 }
 
-// A start that is refused leaves the session that is in use.
-fn start(state: State, started: Started) -> Step {
-    let outcome = started.outcome;
+fn maxima(call: Call) -> Maxima {
+    Maxima {
+        p_max: real_at(call, 2),
+        v_max: real_at(call, 3),
+        t_max: real_at(call, 4),
+    }
+}
+
+fn put_start(outcome: StartOutcome, output: &mut [u8], to: usize) -> usize {
     match outcome {
-        session::start::Outcome::Started => {
-            let session = started.session;
-            in_use(session, Reply::Started)
-        }
-        session::start::Outcome::Refused(number) => Step {
-            state,
-            reply: Reply::Refused(number),
-        },
-    }
-}
-
-fn in_use(session: Session, reply: Reply) -> Step {
-    Step {
-        state: State {
-            is_started: true,
-            session,
-        },
-        reply,
+        StartOutcome::Started => put(output, to, b"started"),
+        StartOutcome::Refused(number) => put_refused(number, output, to),
     }
 }
 
 // A run's call that is refused gives back the session as it was.
-fn turned(turn: Turn) -> Step {
-    let session = turn.session;
-    let told = turn.told;
-    in_use(session, Reply::Run(told))
+fn run(state: State, call: Call, output: &mut [u8]) -> State {
+    let done = turn(state.session, call);
+    let told = done.told;
+    let to = put_told(told, output, state.to);
+    state_of(done.session, true, to)
 }
 
-fn frame_of(id: u64, data: u64, dlc: u64, flag: u64) -> CanFrame {
+fn take(state: State, call: Call, output: &mut [u8]) -> State {
+    let done = taken(state.session, call);
+    let outcome = done.outcome;
+    let to = put_taken(outcome, output, state.to);
+    state_of(done.session, true, to)
+}
+
+fn taken(session: Session, call: Call) -> AfterFrame {
+    let frame = taken_frame(call);
+    let reading = Instant(u64_at(call, 0));
+    if call.code == calls::FRAME {
+        return process_feedback_frame(session, frame, reading);
+    }
+    session_lent::take_frame(session, frame, reading)
+}
+
+fn taken_frame(call: Call) -> CanFrame {
+    frame_of(
+        u32_at(call, 1),
+        u64_at(call, 2),
+        u8_at(call, 3),
+        u64_at(call, 4),
+    )
+}
+
+fn put_taken(outcome: FrameOutcome, output: &mut [u8], to: usize) -> usize {
+    match outcome {
+        FrameOutcome::Taken => put(output, to, b"taken"),
+        FrameOutcome::Refused(number) => put_refused(number, output, to),
+    }
+}
+
+fn patch(state: State, call: Call, output: &mut [u8]) -> State {
+    let done = patched(state.session, call);
+    let to = put_flag(output, state.to, b"patched ", done.patched);
+    state_of(done.session, true, to)
+}
+
+fn patched(session: Session, call: Call) -> AfterPatch {
+    patch_latest(session, u8_at(call, 0), u8_at(call, 1), u8_at(call, 2))
+}
+
+fn ask(state: State, call: Call, output: &mut [u8]) -> State {
+    let to = put_asked(state.session, call, output, state.to);
+    state_of(state.session, true, to)
+}
+
+fn put_asked(session: Session, call: Call, output: &mut [u8], to: usize) -> usize {
+    put_accepts(session.head, call, output, to)
+}
+
+fn put_accepts(head: Head, call: Call, output: &mut [u8], to: usize) -> usize {
+    let accepted = accepts_frame(head, asked_frame(call));
+    put_flag(output, to, b"accepts ", accepted)
+}
+
+fn asked_frame(call: Call) -> CanFrame {
+    frame_of(
+        u32_at(call, 0),
+        u64_at(call, 1),
+        u8_at(call, 2),
+        u64_at(call, 3),
+    )
+}
+
+fn show(state: State, output: &mut [u8]) -> State {
+    let to = put_session(state.session, output, state.to);
+    state_of(state.session, true, to)
+}
+
+fn frame_of(arbitration_id: u32, data: u64, dlc: u8, flag: u64) -> CanFrame {
     CanFrame {
-        arbitration_id: low32(id),
-        data: frame::data_bytes(data),
-        dlc: low8(dlc),
+        arbitration_id,
+        data: protocol_frame::data_bytes(data),
+        dlc,
         is_extended: flag != 0,
     }
-}
-
-// The frame and the reading of a line that has both.
-fn frame_in(call: Call) -> CanFrame {
-    let a = call.args;
-    frame_of(a[1], a[2], a[3], a[4])
-}
-
-fn reading_in(call: Call) -> Instant {
-    let a = call.args;
-    Instant(a[0])
-}
-
-fn taken(taking: Taking) -> Step {
-    let outcome = taking.outcome;
-    let session = taking.session;
-    match outcome {
-        Outcome::Taken => in_use(session, Reply::Taken),
-        Outcome::Refused(number) => in_use(session, Reply::Refused(number)),
-    }
-}
-
-fn patch(session: Session, call: Call) -> Step {
-    let a = call.args;
-    let done = patch_latest(session, low8(a[0]), low8(a[1]), low8(a[2]));
-    let after = done.session;
-    in_use(after, Reply::Patched(done.patched))
-}
-
-fn accepts(session: Session, call: Call) -> Step {
-    let a = call.args;
-    let heard = session.heard;
-    let accepted = accepts_frame(heard, frame_of(a[0], a[1], a[2], a[3]));
-    in_use(session, Reply::Accepts(accepted))
 }

@@ -3,8 +3,8 @@ use crate::print::put_measured;
 use crate::print::put_next;
 use crate::print::put_numbered;
 use crate::print::put_status_name;
-use feedback::MotorFeedbackState;
 use registers::RegisterValue;
+use state_feedback::MotorFeedbackState;
 use text::put;
 use text::put_hex;
 

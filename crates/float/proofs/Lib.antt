@@ -2,10 +2,3 @@ pub mod Nans
 pub mod Truncating
 pub mod Rounding
 pub mod AtMost
-pub mod WholeRoot
-pub mod RootRound
-pub mod RootNear
-pub mod RootLaw
-pub mod RootCases
-pub mod BitsOrder
-pub mod AtLeastZero

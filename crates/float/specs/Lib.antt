@@ -1,3 +1,2 @@
 pub mod Arithmetic
 pub mod Float
-pub mod Root

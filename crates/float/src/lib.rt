@@ -6,8 +6,6 @@ ghost use lib.Ieee as Ieee;
 ghost use lib.Ieee.{binary32};
 ghost use Rattle.float.specs.Float.{clip};
 
-pub mod root;
-
 // The 32 bits of a float that travels unchanged: a NaN keeps its payload.
 pub struct F32Bits(pub u32);
 

@@ -1,19 +1,24 @@
-// A query of the model list, three limits and a tolerance or a count: whether it is taken, and the
-// answer to it, names or a refusal.
+// A query of the model list: whether it is accepted, and the answer to it, names or a refusal.
 ghost use mathlib.Core.Path.{_≡_};
 ghost use Rattle.model_query.specs.Query as Spec;
-use models::list::Maxima;
-use models::list::Names;
+use model_list::Names;
 use motor_core::error::QUERY;
 
-pub enum Outcome {
+// A position, a velocity and a torque, to be compared with the maxima of each model.
+pub struct Query {
+    pub p: f32,
+    pub v: f32,
+    pub t: f32,
+}
+
+pub enum QueryOutcome {
     Listed,
     Refused(u8),
 }
 
 // A refusal has no names beside it.
 pub struct Listing {
-    pub outcome: Outcome,
+    pub outcome: QueryOutcome,
     pub names: Names,
 }
 
@@ -25,18 +30,18 @@ fn queryable(x: f32) -> bool
 }
 
 // Whether all three are.
-pub fn accepts_query(query: Maxima) -> bool
+pub fn accepts_query(query: Query) -> bool
     ensures { λ r. ⌜ r ≡ Spec.query-accepted query ⌝ }
 {
-    queryable(query.p_max) && queryable(query.v_max) && queryable(query.t_max)
+    queryable(query.p) && queryable(query.v) && queryable(query.t)
 }
 
-// Whether a query was taken, as the answer has it.
-pub fn outcome_of(taken: bool) -> Outcome
-    ensures { λ r. ⌜ r ≡ Spec.outcome-of taken ⌝ }
+// Listed, or the refusal of a query that is not accepted.
+pub fn outcome_of(accepted: bool) -> QueryOutcome
+    ensures { λ r. ⌜ r ≡ Spec.outcome-of accepted ⌝ }
 {
-    if taken {
-        return Outcome::Listed;
+    if accepted {
+        return QueryOutcome::Listed;
     }
-    Outcome::Refused(QUERY)
+    QueryOutcome::Refused(QUERY)
 }

@@ -1,4 +1,4 @@
--- The limits that are taken, and the record that three maxima make. Definitions only.
+-- The limits that are accepted, and the record that three maxima make. Definitions only.
 use mathlib.Core.Bool.{Bool, _&&_, false, cond}
 use lib.IntN.{pos, negsuc}
 use lib.Ieee.{Float, fin, le, neg}
@@ -7,7 +7,7 @@ use Rattle.motor_core.specs.declared.model.PvTLimits.{PvTLimits}
 use Rattle.motor_core.specs.declared.model.LimitCheck.{LimitCheck}
 use Rattle.motor_core.specs.declared.model.LimitCheck.the-variants.{Accepted, Refused}
 
--- 'Turned back', 1: taken from 1/1024 to 65,536, both included. A NaN compares with neither, an infinity lies beyond
+-- 'Turned back', 1: accepted from 1/1024 to 65,536, both included. A NaN compares with neither, an infinity lies beyond
 unfoldable pub limit-accepted : Float → Bool
 limit-accepted max = le (fin false 1 (negsuc 9)) max && le max (fin false 1 (pos 16))
 

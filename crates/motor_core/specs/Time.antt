@@ -5,7 +5,7 @@ use lib.Dec.{leb}
 use Rattle.motor_core.specs.declared.time.Instant.{Instant}
 use Rattle.motor_core.specs.declared.time.Duration.{Duration}
 
--- 'Turned back', 3: a reading is taken from the last one up to 2^62, both included
+-- 'Turned back', 3: a reading is accepted from the last one up to 2^62, both included
 abbrev pub reading-accepted : Instant → Instant → Bool
 reading-accepted last reading = leb (last .0) (reading .0) && leb (reading .0) (2 ^ 62)
 
@@ -13,6 +13,6 @@ reading-accepted last reading = leb (last .0) (reading .0) && leb (reading .0) (
 abbrev pub millis : ℕ → Duration
 millis n = record { 0 = n * 1_000_000 }
 
--- 'Turned back', 7: a timeout is taken up to 60 s, included
+-- 'Turned back', 7: a timeout is accepted up to 60 s, included
 abbrev pub timeout-accepted : Duration → Bool
 timeout-accepted timeout = leb (timeout .0) (millis 60_000 .0)

@@ -1,5 +1,6 @@
-// What every motor shares: frames on the bus, time, limits and the numbers of refusals. The modules
-// are those of the Rust crate of this name.
+// What every motor shares: frames on the bus, limits, time, names and the numbers of refusals. `bus` and
+// `model` have what is used of the Rust's files of these names; `error` has refusal numbers where the
+// Rust has MotorError, `name` stands for its strings and `time` for its Instant and Duration.
 pub mod bus;
 pub mod error;
 pub mod model;

@@ -1,12 +1,13 @@
 -- Lines of the script as calls, by computation. Assumes nothing.
+use Prim.Native.Char.{code}
 use Prim.Native.String.{String}
 use mathlib.Core.Path.{_≡_, refl}
 use mathlib.Core.List.{[], _∷_}
-use Rattle.words.specs.Number.{digit-of, all-digits, value-of, digits-after, digits-of, number-of, limit-of, at-most, name-of, field-of}
+use Rattle.script_words.specs.Number.{digit-of, all-digits, value-of, digits-after, digits-of, number-of, limit-of, at-most, name-of, field-of}
 use Rattle.text.specs.Ascii.{ascii}
-use Rattle.words.specs.Word.{index-of, split}
+use Rattle.script_words.specs.Word.{index-of, split}
 use Rattle.text.specs.Text.{same}
-use Rattle.script.specs.Line.{calls, plain, bad-call, no-call, fields-of, call-from, call-of, parsed}
+use Rattle.script.specs.Line.{calls, plain, control-byte, unknown-word, too-few, too-many, wrong-argument, no-call, fields-of, call-from, call-of, parsed}
 use Rattle.script.specs.declared.Call.{Call}
 
 unfoldable pub call : String → Call
@@ -21,15 +22,16 @@ pub record Examples : Type 0 where
   pub zeros-in-front : call "register 0x00000000000000000000ff" ≡ record { code = 33; args = 255 ∷ 0 ∷ 0 ∷ 0 ∷ 0 ∷ 0 ∷ 0 ∷ 0 ∷ 0 ∷ [] }
   pub comment : call "# register 7" ≡ no-call
   pub nothing : call "" ≡ no-call
-  pub out-of-field : call "register 256" ≡ bad-call
-  pub past-64-bits : call "suggest 1 2 3 18446744073709551616" ≡ bad-call
-  pub flag : call "accepts 17 0 8 2" ≡ bad-call
-  pub two-spaces : call "register  7" ≡ bad-call
-  pub space-behind : call "register 7 " ≡ bad-call
-  pub no-digit : call "register 0x" ≡ bad-call
-  pub carriage-return : call "register 7\r" ≡ bad-call
-  pub too-few : call "vel 1" ≡ bad-call
-  pub too-many : call "store 1" ≡ bad-call
+  pub out-of-field : call "register 256" ≡ wrong-argument 33 1 (code "b")
+  pub past-64-bits : call "suggest 1 2 3 18446744073709551616" ≡ wrong-argument 35 4 (code "q")
+  pub flag : call "accepts 17 0 8 2" ≡ wrong-argument 16 4 (code "f")
+  pub two-spaces : call "register  7" ≡ wrong-argument 33 1 (code "b")
+  pub space-behind : call "register 7 " ≡ too-many 33
+  pub no-digit : call "register 0x" ≡ wrong-argument 33 1 (code "b")
+  pub carriage-return : call "register 7\r" ≡ control-byte
+  pub one-short : call "vel 1" ≡ too-few 21
+  pub one-over : call "store 1" ≡ too-many 7
+  pub no-word : call "help" ≡ unknown-word
 
 pub examples : Examples
 unfolding call ascii parsed calls call-of call-from fields-of field-of name-of at-most limit-of number-of digits-of digits-after value-of all-digits digit-of index-of same split
@@ -49,6 +51,7 @@ examples = record {
   space-behind = refl;
   no-digit = refl;
   carriage-return = refl;
-  too-few = refl;
-  too-many = refl;
+  one-short = refl;
+  one-over = refl;
+  no-word = refl;
 }

@@ -10,21 +10,21 @@ use lib.ListN.{length, getD, take, drop, set, replicate, drop-of-length-le}
 use lib.Seq.{drop-cons}
 use lib.Dec.{leb, eqb}
 use borrow.Author.Tests.{lt-ltb, le-ltb, eq-eqb, ne-eqb}
-use Rattle.words.specs.Number.{field-of}
-use Rattle.words.specs.Word.{index-of, split, words-from}
+use Rattle.script_words.specs.Number.{field-of}
+use Rattle.script_words.specs.Word.{index-of, split, words-from}
 use Rattle.text.specs.Text.{same}
-use Rattle.script.specs.Line.{bad-call, no-call, calls, with-value, fields-of, call-from, call-of, has, passed-over, parsed}
-use Rattle.words.specs.declared.Read.{Read}
-use Rattle.words.specs.declared.Read.the-variants.{Value, Bad}
+use Rattle.script.specs.Line.{long-line, control-byte, unknown-word, too-few, too-many, wrong-argument, no-call, calls, with-value, fields-of, call-from, call-of, has, passed-over, parsed}
+use Rattle.script_words.specs.declared.Read.{Read}
+use Rattle.script_words.specs.declared.Read.the-variants.{Value, Bad}
 use Rattle.script.specs.declared.Call.{Call}
-use Rattle.words.proofs.Words.{words-none, words-first, from-start}
+use Rattle.script_words.proofs.Words.{words-none, words-first, from-start}
 
 -- ---- the arguments from place i on, with the words from `from` on
 module _ (kinds line : List ℕ) (code from i : ℕ) (args : List ℕ) where
   abbrev left : Call
   left = fields-of (drop i kinds) (words-from line from) code i args
 
-  pub missing : i < length kinds → length line < from → left ≡ bad-call
+  pub missing : i < length kinds → length line < from → left ≡ too-few code
   unfolding fields-of
   missing h k = rw (drop-cons kinds i 0, words-none line from)
 
@@ -32,21 +32,21 @@ module _ (kinds line : List ℕ) (code from i : ℕ) (args : List ℕ) where
   unfolding fields-of
   whole h k = rw (drop-of-length-le kinds h, words-none line from)
 
-  pub extra : length kinds ≤ i → from ≤ length line → left ≡ bad-call
+  pub extra : length kinds ≤ i → from ≤ length line → left ≡ too-many code
   unfolding fields-of
   extra h k = rw (drop-of-length-le kinds h, words-first line from (from + index-of 32 (drop from line)) k refl)
 
-  pub many : i < length kinds → from ≤ length line → 9 ≤ i → left ≡ bad-call
+  pub many : i < length kinds → from ≤ length line → 9 ≤ i → left ≡ too-many code
   unfolding fields-of
   many h k n = rw (drop-cons kinds i 0, words-first line from (from + index-of 32 (drop from line)) k refl, le-ltb i 9 n)
 
   module _ (e : ℕ) (h : i < length kinds) (k : from ≤ length line) (n : i < 9) (q : e ≡ from + index-of 32 (drop from line)) where
     taken : (r : Read) → field-of (getD kinds i 0) (take (e - from) (drop from line)) ≡ r
-        → left ≡ with-value r (λ v. fields-of (drop (i + 1) kinds) (words-from line (e + 1)) code (i + 1) (set args i v))
+        → left ≡ with-value r (λ v. fields-of (drop (i + 1) kinds) (words-from line (e + 1)) code (i + 1) (set args i v)) (wrong-argument code (i + 1) (getD kinds i 0))
     unfolding fields-of
     taken r p = rw (drop-cons kinds i 0, words-first line from e k q, lt-ltb i 9 n, p, add-one i)
 
-    pub wrong : field-of (getD kinds i 0) (take (e - from) (drop from line)) ≡ Bad → left ≡ bad-call
+    pub wrong : field-of (getD kinds i 0) (take (e - from) (drop from line)) ≡ Bad → left ≡ wrong-argument code (i + 1) (getD kinds i 0)
     wrong p = taken Bad p
 
     pub right : (v : ℕ) → field-of (getD kinds i 0) (take (e - from) (drop from line)) ≡ Value v
@@ -63,16 +63,16 @@ module _ (table line : List ℕ) (e : ℕ) (q : e ≡ 0 + index-of 32 (drop 0 li
       ∙ ap (λ (n : ℕ). call-from (words-from table 0) (take n line) (words-from line (e + 1)) 0) (sub-zero e)
 
 module _ (table word : List ℕ) (words : List (List ℕ)) (code at : ℕ) where
-  pub ended : length table ≤ at → call-from (words-from table at) word words code ≡ bad-call
+  pub ended : length table ≤ at → call-from (words-from table at) word words code ≡ unknown-word
   unfolding call-from words-from split
   ended h = rw (drop-of-length-le table h) (by (leb at (length table)))
     where
-      by : (t : Bool) → call-from (cond t ([] ∷ []) []) word words code ≡ bad-call
+      by : (t : Bool) → call-from (cond t ([] ∷ []) []) word words code ≡ unknown-word
       by true = refl
       by false = refl
 
   module _ (n : ℕ) (h : at ≤ length table) (p : n ≡ at + index-of 32 (drop at table)) where
-    pub half : length table ≤ n → call-from (words-from table at) word words code ≡ bad-call
+    pub half : length table ≤ n → call-from (words-from table at) word words code ≡ unknown-word
     unfolding call-from
     half k = rw (words-first table at n h p, words-none table (n + 1) (omega arith))
 
@@ -92,7 +92,7 @@ module _ (table word : List ℕ) (words : List (List ℕ)) (code at : ℕ) where
       passed e = row-at false e
 
 -- ---- a line, by the tests that come first
-pub too-long : (line : List ℕ) → 4095 < length line → parsed line ≡ bad-call
+pub too-long : (line : List ℕ) → 4095 < length line → parsed line ≡ long-line
 unfolding parsed
 too-long line h = simp (lt-ltb 4095 (length line) h)
 
@@ -111,15 +111,15 @@ module _ (line : List ℕ) (h : length line ≤ 4095) (n : length line ≡ 0 →
   comment e = simp (le-ltb 4095 (length line) h, starts line true n (eq-eqb (getD line 0 0) 35 e))
 
   module _ (k : getD line 0 0 ≡ 35 → ⊥) where
-    left-over : parsed line ≡ cond (has 9 line || has 13 line) bad-call (call-of calls (split line))
+    left-over : parsed line ≡ cond (has 9 line || has 13 line) control-byte (call-of calls (split line))
     unfolding parsed
     left-over = simp (le-ltb 4095 (length line) h, starts line false n (ne-eqb (getD line 0 0) 35 k))
 
-    pub tabbed : (i : ℕ) → i ≡ 0 + index-of 9 (drop 0 line) → i < length line → parsed line ≡ bad-call
+    pub tabbed : (i : ℕ) → i ≡ 0 + index-of 9 (drop 0 line) → i < length line → parsed line ≡ control-byte
     tabbed i q e = left-over ∙ simp (lt-ltb (index-of 9 line) (length line) (omega arith))
 
     module _ (i : ℕ) (q : i ≡ 0 + index-of 9 (drop 0 line)) (e : length line ≤ i) (j : ℕ) (p : j ≡ 0 + index-of 13 (drop 0 line)) where
-      pub returned : j < length line → parsed line ≡ bad-call
+      pub returned : j < length line → parsed line ≡ control-byte
       returned f = left-over ∙ simp (le-ltb (index-of 9 line) (length line) (omega arith), lt-ltb (index-of 13 line) (length line) (omega arith))
 
       pub called : length line ≤ j → parsed line ≡ call-of calls (split line)

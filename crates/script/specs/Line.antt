@@ -6,12 +6,12 @@ use mathlib.Core.Bool.{Bool, true, cond, _||_}
 use mathlib.Core.List.{List, [], _∷_}
 use lib.ListN.{length, set, replicate}
 use lib.Dec.{ltb, eqb}
-use Rattle.words.specs.Number.{field-of}
+use Rattle.script_words.specs.Number.{field-of}
 use Rattle.text.specs.Ascii.{ascii}
-use Rattle.words.specs.Word.{index-of, split}
+use Rattle.script_words.specs.Word.{index-of, split}
 use Rattle.text.specs.Text.{same}
-use Rattle.words.specs.declared.Read.{Read}
-use Rattle.words.specs.declared.Read.the-variants.{Value, Bad}
+use Rattle.script_words.specs.declared.Read.{Read}
+use Rattle.script_words.specs.declared.Read.the-variants.{Value, Bad}
 use Rattle.script.specs.declared.Call.{Call}
 
 abbrev pub row : String → String → List (List ℕ) → List (List ℕ)
@@ -60,36 +60,55 @@ calls =
 abbrev pub plain : ℕ → Call
 plain code = record { code = code; args = replicate 9 0 }
 
-abbrev pub bad-call : Call
-bad-call = plain 254
+-- a bad line: what is wrong with it, the code of the call that its word names, and of an argument that does not fit its place, from 1 on, and the letter of its kind
+abbrev pub bad-line : ℕ → ℕ → ℕ → ℕ → Call
+bad-line fault code place kind = record { code = 254; args = fault ∷ (code ∷ (place ∷ (kind ∷ replicate 5 0))) }
+
+abbrev pub long-line : Call
+long-line = bad-line 0 0 0 0
+
+abbrev pub control-byte : Call
+control-byte = bad-line 1 0 0 0
+
+abbrev pub unknown-word : Call
+unknown-word = bad-line 2 0 0 0
+
+abbrev pub too-few : ℕ → Call
+too-few code = bad-line 3 code 0 0
+
+abbrev pub too-many : ℕ → Call
+too-many code = bad-line 4 code 0 0
+
+abbrev pub wrong-argument : ℕ → ℕ → ℕ → Call
+wrong-argument code place kind = bad-line 5 code place kind
 
 -- a line that writes nothing
 abbrev pub no-call : Call
 no-call = plain 255
 
-abbrev pub with-value : Read → (ℕ → Call) → Call
-with-value (Value n) next = next n
-with-value Bad next = bad-call
+abbrev pub with-value : Read → (ℕ → Call) → Call → Call
+with-value (Value n) next other = next n
+with-value Bad next other = other
 
 -- the words as the arguments from place i on, one for each kind, nine at most
 unfoldable pub fields-of : List ℕ → List (List ℕ) → ℕ → ℕ → List ℕ → Call
 fields-of [] [] code i args = record { code = code; args = args }
-fields-of [] (word ∷ words) code i args = bad-call
-fields-of (kind ∷ kinds) [] code i args = bad-call
+fields-of [] (word ∷ words) code i args = too-many code
+fields-of (kind ∷ kinds) [] code i args = too-few code
 fields-of (kind ∷ kinds) (word ∷ words) code i args =
     cond (ltb i 9)
-    (with-value (field-of kind word) (λ n. fields-of kinds words code (suc i) (set args i n)))
-    bad-call
+    (with-value (field-of kind word) (λ n. fields-of kinds words code (suc i) (set args i n)) (wrong-argument code (suc i) kind))
+    (too-many code)
 
 -- the call of the first row that has this word
 unfoldable pub call-from : List (List ℕ) → List ℕ → List (List ℕ) → ℕ → Call
-call-from [] word words code = bad-call
-call-from (name ∷ []) word words code = bad-call
+call-from [] word words code = unknown-word
+call-from (name ∷ []) word words code = unknown-word
 call-from (name ∷ (kinds ∷ rows)) word words code =
     cond (same name word) (fields-of kinds words code 0 (replicate 9 0)) (call-from rows word words (suc code))
 
 unfoldable pub call-of : List (List ℕ) → List (List ℕ) → Call
-call-of rows [] = bad-call
+call-of rows [] = unknown-word
 call-of rows (word ∷ words) = call-from rows word words 0
 
 abbrev pub has : ℕ → List ℕ → Bool
@@ -102,7 +121,7 @@ passed-over (b ∷ rest) = eqb b (code "#")
 -- a line of more than 4,095 bytes is bad whatever it begins with; so is one with a tab or a carriage return that is not passed over
 unfoldable pub parsed : List ℕ → Call
 parsed line =
-    cond (ltb 4095 (length line)) bad-call
+    cond (ltb 4095 (length line)) long-line
     (cond (passed-over line) no-call
-    (cond (has 9 line || has 13 line) bad-call
+    (cond (has 9 line || has 13 line) control-byte
     (call-of calls (split line))))

@@ -1,14 +1,15 @@
 // A line as a call, by a table of the calls' words and the kinds of their arguments.
 use crate::Call;
 use crate::MAX_LINE;
+use crate::faults;
+use script_words::Read;
+use script_words::field;
+use script_words::index_of;
 use text::same_bytes;
-use words::Read;
-use words::field;
-use words::index_of;
 ghost use mathlib.Core.Path.{_≡_};
 ghost use lib.ListN.{replicate};
-ghost use Rattle.words.specs.Word.{split, words-from};
-ghost use Rattle.script.specs.Line.{plain, fields-of, call-of, parsed};
+ghost use Rattle.script_words.specs.Word.{split, words-from};
+ghost use Rattle.script.specs.Line.{plain, bad-line, fields-of, call-of, parsed};
 
 // A call's code is its row's place in the table.
 pub const START_LIMITS: u64 = 0;
@@ -138,6 +139,16 @@ fn bare(code: u64) -> Call
     }
 }
 
+// The call of a bad line.
+fn bad(fault: u64, code: u64, place: u64, kind: u8) -> Call
+    ensures { λ r. ⌜ r ≡ bad-line fault code place kind ⌝ }
+{
+    Call {
+        code: BAD,
+        args: [fault, code, place, kind as u64, 0, 0, 0, 0, 0],
+    }
+}
+
 // The words of `line` from `at` on as the arguments of a call, one for each kind.
 fn fields(kinds: &[u8], line: &[u8], at: usize, code: u64) -> Call
     ensures { λ r. ⌜ r ≡ fields-of (now (kinds .entry)) (words-from (now (line .entry)) at) code 0 (replicate 9 0) ⌝ }
@@ -147,21 +158,22 @@ fn fields(kinds: &[u8], line: &[u8], at: usize, code: u64) -> Call
     let mut i = 0;
     while i < kinds.len() {
         if from > line.len() {
-            return bare(BAD);
+            return bad(faults::TOO_FEW, code, 0, 0);
         }
         if i >= 9 {
-            return bare(BAD);
+            return bad(faults::TOO_MANY, code, 0, 0);
         }
         let end = index_of(line, from, b' ');
-        let Read::Value(value) = field(kinds[i], &line[from..end]) else {
-            return bare(BAD);
+        let kind = kinds[i];
+        let Read::Value(value) = field(kind, &line[from..end]) else {
+            return bad(faults::WRONG_ARGUMENT, code, i as u64 + 1, kind);
         };
         args[i] = value;
         from = end + 1;
         i += 1;
     }
     if from <= line.len() {
-        return bare(BAD);
+        return bad(faults::TOO_MANY, code, 0, 0);
     }
     Call { code, args }
 }
@@ -177,7 +189,7 @@ fn call_by(table: &[u8], line: &[u8]) -> Call
     while at < table.len() {
         let name_end = index_of(table, at, b' ');
         if name_end >= table.len() {
-            return bare(BAD);
+            return bad(faults::UNKNOWN_WORD, 0, 0, 0);
         }
         let kinds = name_end + 1;
         let kinds_end = index_of(table, kinds, b' ');
@@ -187,15 +199,15 @@ fn call_by(table: &[u8], line: &[u8]) -> Call
         at = kinds_end + 1;
         code += 1;
     }
-    bare(BAD)
+    bad(faults::UNKNOWN_WORD, 0, 0, 0)
 }
 
-// A line as a call, or `BAD`, or `NOTHING` where it is passed over.
+// A line as a call, or `BAD` with the reason, or `NOTHING` where it is passed over.
 pub fn parse(line: &[u8]) -> Call
     ensures { λ r. ⌜ r ≡ parsed (now (line .entry)) ⌝ }
 {
     if line.len() > MAX_LINE {
-        return bare(BAD);
+        return bad(faults::LONG_LINE, 0, 0, 0);
     }
     if line.len() == 0 {
         return bare(NOTHING);
@@ -204,10 +216,10 @@ pub fn parse(line: &[u8]) -> Call
         return bare(NOTHING);
     }
     if index_of(line, 0, b'\t') < line.len() {
-        return bare(BAD);
+        return bad(faults::CONTROL_BYTE, 0, 0, 0);
     }
     if index_of(line, 0, b'\r') < line.len() {
-        return bare(BAD);
+        return bad(faults::CONTROL_BYTE, 0, 0, 0);
     }
     call_by(&CALLS, line)
 }

@@ -1,4 +1,4 @@
--- A start by a model's name goes by the motor id alone where all listed limits are taken, as those of the built-in models are. Assumes nothing.
+-- A start by a model's name goes by the motor id alone where all listed limits are accepted, as those of the built-in models are. Assumes nothing.
 use Prim.Native.Nat.{ℕ}
 use mathlib.Core.Path.{_≡_, refl, ap}
 use mathlib.Core.Bool.{Bool, true, false, _&&_, cond}
@@ -10,11 +10,11 @@ use Rattle.motor_core.specs.Error as Error
 use Rattle.motor_core.specs.Model.{limit-accepted, from-maxima, limits-of}
 use Rattle.motor_core.specs.Name.{spelling}
 use Rattle.motor_core.specs.declared.model.LimitCheck.the-variants as Check
-use Rattle.models.specs.Models.{damiao-models, limits-by-name}
-use Rattle.models.specs.declared.list.Maxima.{Maxima}
-use Rattle.models.specs.declared.list.MotorModelSpec.{MotorModelSpec}
-use Rattle.models.specs.declared.list.ModelLimits.{ModelLimits}
-use Rattle.models.specs.declared.list.ModelLimits.the-variants.{Limits}
+use Rattle.model_list.specs.Models.{damiao-models, limits-by-name}
+use Rattle.model_list.specs.declared.Maxima.{Maxima}
+use Rattle.model_list.specs.declared.MotorModelSpec.{MotorModelSpec}
+use Rattle.model_list.specs.declared.ModelLimits.{ModelLimits}
+use Rattle.model_list.specs.declared.ModelLimits.the-variants.{Limits}
 use Rattle.session.specs.BuiltIn.{maxima-accepted, all-accepted, by-motor-id, untested}
 use Rattle.session.specs.Start.{by-limits, from-limits, by-name, from-model}
 

@@ -3,8 +3,8 @@ use Prim.Native.Nat.{ℕ, zero, suc}
 use mathlib.Core.Path.{_≡_, refl}
 use lib.ListN.{length, replicate, length-replicate}
 use Rattle.motor_core.specs.declared.model.PvTLimits.{PvTLimits}
-use Rattle.feedback.specs.Feedback.{no-feedback}
-use Rattle.cache.specs.Cache.{empty, slot-of}
+use Rattle.state_feedback.specs.Feedback.{no-feedback}
+use Rattle.state_cache.specs.Cache.{empty, slot-of}
 use Rattle.session.specs.Session.{closed, fresh}
 
 all-empty : (n rid : ℕ) → slot-of (replicate n empty) rid ≡ empty
@@ -29,23 +29,23 @@ module _ (motor-id feedback-id : ℕ) (limits : PvTLimits) where
   unfolding fresh
   fresh-acks = length-replicate 82 empty
 
-  pub fresh-motor-id : fresh motor-id feedback-id limits .heard .«motor_id» ≡ motor-id
+  pub fresh-motor-id : fresh motor-id feedback-id limits .head .«motor_id» ≡ motor-id
   unfolding fresh
   fresh-motor-id = refl
 
-  pub fresh-feedback-id : fresh motor-id feedback-id limits .heard .«feedback_id» ≡ feedback-id
+  pub fresh-feedback-id : fresh motor-id feedback-id limits .head .«feedback_id» ≡ feedback-id
   unfolding fresh
   fresh-feedback-id = refl
 
-  pub fresh-limits : fresh motor-id feedback-id limits .heard .limits ≡ limits
+  pub fresh-limits : fresh motor-id feedback-id limits .head .limits ≡ limits
   unfolding fresh
   fresh-limits = refl
 
-  pub fresh-feedback : fresh motor-id feedback-id limits .heard .feedback ≡ no-feedback
+  pub fresh-feedback : fresh motor-id feedback-id limits .head .feedback ≡ no-feedback
   unfolding fresh
   fresh-feedback = refl
 
-  pub fresh-last : fresh motor-id feedback-id limits .heard .last .0 ≡ 0
+  pub fresh-last : fresh motor-id feedback-id limits .head .last .0 ≡ 0
   unfolding fresh
   fresh-last = refl
 

@@ -5,7 +5,7 @@ use lib.ListN.{length, length-map}
 use mir.Val.{Val}
 use denote.Laws.{Is}
 use denote.Struct.Laws as Laws
-use Rattle.cache.proofs.Slot as Slot·row
+use Rattle.state_cache.proofs.Slot as Slot·row
 use Rattle.session.specs.declared.Session.{Session}
 use Rattle.session.proofs.Session as Session·row
 use Rattle.session.proofs.Session.Laws as Session·laws

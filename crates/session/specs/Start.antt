@@ -9,14 +9,14 @@ use Rattle.motor_core.specs.Model.{limits-of}
 use Rattle.motor_core.specs.declared.model.PvTLimits.{PvTLimits}
 use Rattle.motor_core.specs.declared.model.LimitCheck.{LimitCheck}
 use Rattle.motor_core.specs.declared.model.LimitCheck.the-variants as Check
-use Rattle.models.specs.Models.{limits-by-name}
-use Rattle.models.specs.declared.list.Maxima.{Maxima}
-use Rattle.models.specs.declared.list.MotorModelSpec.{MotorModelSpec}
-use Rattle.models.specs.declared.list.ModelLimits.{ModelLimits}
-use Rattle.models.specs.declared.list.ModelLimits.the-variants as Named
+use Rattle.model_list.specs.Models.{limits-by-name}
+use Rattle.model_list.specs.declared.Maxima.{Maxima}
+use Rattle.model_list.specs.declared.MotorModelSpec.{MotorModelSpec}
+use Rattle.model_list.specs.declared.ModelLimits.{ModelLimits}
+use Rattle.model_list.specs.declared.ModelLimits.the-variants as Named
 use Rattle.session.specs.Session.{fresh}
 use Rattle.session.specs.declared.Session.{Session}
-use Rattle.session.specs.declared.start.Outcome.the-variants as Outcome
+use Rattle.session.specs.declared.start.StartOutcome.the-variants as StartOutcome
 use Rattle.session.specs.declared.start.Started.{Started}
 
 -- the placeholder beside a refusal
@@ -27,13 +27,13 @@ abbrev pub no-session : Session
 no-session = fresh 0 0 no-limits
 
 abbrev pub refused : ℕ → Started
-refused number = record { session = no-session; outcome = Outcome.Refused number }
+refused number = record { session = no-session; outcome = StartOutcome.Refused number }
 
 -- 'Turned back', start: the limits are tested first, 1, then the motor id, 2
 abbrev pub by-limits : LimitCheck → ℕ → ℕ → Started
 by-limits (Check.Refused number) motor-id feedback-id = refused number
 by-limits (Check.Accepted limits) motor-id feedback-id =
-    cond (motor-id-accepted motor-id) (record { session = fresh motor-id feedback-id limits; outcome = Outcome.Started }) (refused Error.motor-id)
+    cond (motor-id-accepted motor-id) (record { session = fresh motor-id feedback-id limits; outcome = StartOutcome.Started }) (refused Error.motor-id)
 
 unfoldable pub from-limits : ℕ → ℕ → Maxima → Started
 from-limits motor-id feedback-id m = by-limits (limits-of (m .«p_max») (m .«v_max») (m .«t_max»)) motor-id feedback-id

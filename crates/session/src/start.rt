@@ -1,28 +1,28 @@
 // A session's start, from three limits or from a model's name.
 ghost use mathlib.Core.Path.{_≡_};
-ghost use Rattle.models.specs.Counted.{models-of};
+ghost use Rattle.model_list.specs.Counted.{models-of};
 ghost use Rattle.session.specs.Session.{fresh};
 ghost use Rattle.session.specs.Start as Spec;
-use crate::Heard;
+use crate::Head;
 use crate::Phase;
 use crate::Run;
 use crate::Session;
-use cache::Entry;
-use cache::Slot;
-use feedback::FeedbackCache;
-use feedback::Latest;
-use models::list::Maxima;
-use models::list::ModelLimits;
-use models::list::ModelList;
-use models::list::model_limits;
+use model_list::Maxima;
+use model_list::ModelLimits;
+use model_list::ModelList;
+use model_list::model_limits;
 use motor_core::bus::accepts_motor_id;
 use motor_core::error::MOTOR_ID;
 use motor_core::model::LimitCheck;
 use motor_core::model::PvTLimits;
 use motor_core::model::from_maxima;
 use motor_core::time::Instant;
+use state_cache::Entry;
+use state_cache::Slot;
+use state_feedback::FeedbackCache;
+use state_feedback::Latest;
 
-pub enum Outcome {
+pub enum StartOutcome {
     Started,
     Refused(u8),
 }
@@ -30,7 +30,7 @@ pub enum Outcome {
 // Beside a refusal the session is `no_session()`.
 pub struct Started {
     pub session: Session,
-    pub outcome: Outcome,
+    pub outcome: StartOutcome,
 }
 
 // Empty caches, no record, number 0, last reading 0, no run.
@@ -38,7 +38,7 @@ fn fresh(motor_id: u16, feedback_id: u16, limits: PvTLimits) -> Session
     ensures { λ r. ⌜ r ≡ fresh «motor_id» «feedback_id» limits ⌝ }
 {
     Session {
-        heard: Heard {
+        head: Head {
             motor_id,
             feedback_id,
             limits,
@@ -83,7 +83,7 @@ fn refused(number: u8) -> Started
 {
     Started {
         session: no_session(),
-        outcome: Outcome::Refused(number),
+        outcome: StartOutcome::Refused(number),
     }
 }
 
@@ -100,7 +100,7 @@ pub fn from_limits(motor_id: u16, feedback_id: u16, maxima: Maxima) -> Started
             }
             Started {
                 session: fresh(motor_id, feedback_id, limits),
-                outcome: Outcome::Started,
+                outcome: StartOutcome::Started,
             }
         }
     }

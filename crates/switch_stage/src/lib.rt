@@ -2,20 +2,20 @@
 // holds one of them while a switch is open.
 ghost use mathlib.Core.Path.{_≡_};
 ghost use Rattle.switch_stage.specs.Stage as Spec;
-use cache::Place;
-use confirmed_write::Write;
-use confirmed_write::write_want;
-use control_mode::ControlMode;
-use control_mode::mode_number;
 use float::F32Bits;
 use motor_core::time::Duration;
 use motor_core::time::Instant;
-use register_read::read_want;
+use protocol_hold::ControlMode;
+use protocol_hold::mode_number;
 use registers::RegisterValue;
-use wait::ask::Ask;
-use want::Failure;
-use want::Want;
-use want::message::Message;
+use run_read::read_want;
+use run_wait::ask::Ask;
+use run_want::Failure;
+use run_want::Want;
+use run_want::message::Message;
+use run_write::Write;
+use run_write::write_want;
+use state_cache::Place;
 
 const MODE_REGISTER: u8 = 10;
 
@@ -40,7 +40,8 @@ pub enum ModeRead {
     Verify(u8),
 }
 
-// From the write to the hold frame each has the number of verifying reads after the next one.
+// Named after what each wants: `..Remaining` the clock, to know the time that is left; a read, a frame,
+// a write, a sleep. The number in the last four is that of the verifying reads after the next one.
 pub enum Stage {
     Remaining(ModeRead),
     Reading(ModeRead, Duration, Ask),
@@ -48,8 +49,8 @@ pub enum Stage {
     HoldReading(Duration, Ask),
     Clearing(ControlMode),
     Writing(u8, Write),
-    Settling(u8),
-    Sleeping(u8, Duration),
+    SettleRemaining(u8),
+    SettleSleep(u8, Duration),
     Holding(u8),
 }
 
@@ -78,7 +79,7 @@ fn hold_message(mode: ControlMode, progress: Progress) -> Message
     ensures { λ r. ⌜ r ≡ Spec.hold-message mode progress ⌝ }
 {
     let hold = progress.hold_position;
-    Message::Hold(mode, hold_or_zero(hold))
+    Message::Setpoint(mode, hold_or_zero(hold))
 }
 
 pub fn mode_value(mode: ControlMode) -> RegisterValue
@@ -97,8 +98,8 @@ fn stage_want(mode: ControlMode, progress: Progress, stage: Stage) -> Want
         Stage::HoldReading(_, ask) => read_want(POSITION_REGISTER, ask),
         Stage::Clearing(channel) => Want::Send(hold_message(channel, progress)),
         Stage::Writing(_, write) => write_want(MODE_REGISTER, mode_value(mode), write),
-        Stage::Settling(_) => Want::Clock,
-        Stage::Sleeping(_, length) => Want::Sleep(length),
+        Stage::SettleRemaining(_) => Want::Clock,
+        Stage::SettleSleep(_, length) => Want::Sleep(length),
         Stage::Holding(_) => Want::Send(hold_message(mode, progress)),
     }
 }
@@ -122,8 +123,8 @@ fn stage_place(stage: Stage) -> Place
         Stage::HoldReading(_, _) => Place::Reply(POSITION_REGISTER),
         Stage::Clearing(_) => Place::Nowhere,
         Stage::Writing(_, _) => Place::Ack(MODE_REGISTER),
-        Stage::Settling(_) => Place::Nowhere,
-        Stage::Sleeping(_, _) => Place::Nowhere,
+        Stage::SettleRemaining(_) => Place::Nowhere,
+        Stage::SettleSleep(_, _) => Place::Nowhere,
         Stage::Holding(_) => Place::Nowhere,
     }
 }

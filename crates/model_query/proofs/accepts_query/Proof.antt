@@ -17,7 +17,7 @@ queryable-requires-2 c κs = search needs
 queryable-requires-3 : tie.Need-queryable-requires-3
 queryable-requires-3 c κs = search needs
 
-joined : (c : tie.Joined1) → c .if1 .if2 ≡ Spec.queryable (c .before .before .args .query .«p_max») && Spec.queryable (c .before .before .args .query .«v_max»)
+joined : (c : tie.Joined1) → c .if1 .if2 ≡ Spec.queryable (c .before .before .args .query .p) && Spec.queryable (c .before .before .args .query .v)
 joined c =
     let p = c .before .queryable .ensures in
     ⊎-elim (λ w. w .2 ∙ both _ _ p (w .1 .ensures) (w .0 .taken)) (λ w. w .1 ∙ neither _ _ p (w .0 .left)) (c .if1 .came)

@@ -1,7 +1,7 @@
 -- `switch_stage::stage_want` meets its contract. Assumes nothing.
 use mathlib.Core.Path.{sym, ap, _∙_}
-use Rattle.want.specs.declared.Want.the-variants.{Send}
-use Rattle.confirmed_write.specs.Write.{write-want}
+use Rattle.run_want.specs.declared.Want.the-variants.{Send}
+use Rattle.run_write.specs.Write.{write-want}
 use Rattle.switch_stage.specs.Stage.{stage-want}
 use borrow.Author.Needs.{needs}
 use Rattle.switch_stage.proofs.stage_want.Statement.{statement}

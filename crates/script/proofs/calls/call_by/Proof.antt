@@ -5,9 +5,9 @@ use native.Mathlib.Omega.{arith}
 use lib.ListN.{length, take}
 use lib.Seq.{length-take-le}
 use borrow.Author.Needs.{needs}
-use Rattle.words.specs.Word.{split, words-from}
+use Rattle.script_words.specs.Word.{split, words-from}
 use Rattle.script.specs.Line.{call-from, call-of}
-use Rattle.words.proofs.Words.{end-le}
+use Rattle.script_words.proofs.Words.{end-le}
 use Rattle.script.proofs.Parsing.{begun, ended, half, found, passed}
 use Rattle.script.proofs.calls.call_by.Statement.{statement}
 use Rattle.script.proofs.calls.call_by.Tie as tie
@@ -30,8 +30,8 @@ loop-holds c =
 index-of-requires-2 : tie.Need-index-of-requires-2 Inv-loop μ-loop
 index-of-requires-2 c κs = search needs
 
-bare-requires : tie.Need-bare-requires Inv-loop μ-loop
-bare-requires c κs = search needs
+bad-requires : tie.Need-bad-requires Inv-loop μ-loop
+bad-requires c κs = search needs
 
 returns : tie.Need-returns Inv-loop μ-loop
 returns c =
@@ -39,7 +39,7 @@ returns c =
     let l = c .before .before .before .before .loop in
     let end = c .before .before .before .before .before .index-of in
     let name = c .before .before .index-of2 in
-    c .bare .ensures ∙ sym (l .inv .0 ∙ half (a .table .now) (take (end .result) (a .line .now)) (words-from (a .line .now) (end .result + 1)) (l .code) (l .at) (name .result) (omega arith) (name .ensures) (omega arith))
+    c .bad .ensures ∙ sym (l .inv .0 ∙ half (a .table .now) (take (end .result) (a .line .now)) (words-from (a .line .now) (end .result + 1)) (l .code) (l .at) (name .result) (omega arith) (name .ensures) (omega arith))
 
 add-kinds : tie.Need-add-kinds Inv-loop μ-loop
 add-kinds c = omega arith
@@ -126,15 +126,15 @@ loop-again c =
       omega (arith, name .ensures, kinds .ensures),
     )
 
-bare-requires-2 : tie.Need-bare-requires-2 Inv-loop μ-loop
-bare-requires-2 c κs = search needs
+bad-requires-2 : tie.Need-bad-requires-2 Inv-loop μ-loop
+bad-requires-2 c κs = search needs
 
 returns-3 : tie.Need-returns-3 Inv-loop μ-loop
 returns-3 c =
     let a = c .before .before .before .before .before .before .args in
     let l = c .before .before .loop in
     let end = c .before .before .before .index-of in
-    c .bare2 .ensures ∙ sym (l .inv .0 ∙ ended (a .table .now) (take (end .result) (a .line .now)) (words-from (a .line .now) (end .result + 1)) (l .code) (l .at) (omega arith))
+    c .bad2 .ensures ∙ sym (l .inv .0 ∙ ended (a .table .now) (take (end .result) (a .line .now)) (words-from (a .line .now) (end .result + 1)) (l .code) (l .at) (omega arith))
 
 pub call-by-spec : {M : Type 1} → statement M
 call-by-spec =
@@ -145,7 +145,7 @@ call-by-spec =
     index-of-requires
     loop-holds
     index-of-requires-2
-    bare-requires
+    bad-requires
     returns
     add-kinds
     index-of-requires-3
@@ -164,5 +164,5 @@ call-by-spec =
     add-code
     loop-less
     loop-again
-    bare-requires-2
+    bad-requires-2
     returns-3)

@@ -4,9 +4,9 @@ use mathlib.Core.Path.{_≡_, refl, sym, _∙_}
 use native.Mathlib.Omega.{arith}
 use lib.ListN.{length, drop, replicate}
 use borrow.Author.Needs.{needs}
-use Rattle.words.specs.Word.{words-from}
+use Rattle.script_words.specs.Word.{words-from}
 use Rattle.script.specs.Line.{fields-of}
-use Rattle.words.proofs.Words.{end-le}
+use Rattle.script_words.proofs.Words.{end-le}
 use Rattle.script.proofs.Parsing.{missing, whole, extra, many, wrong, right}
 use Rattle.script.proofs.calls.fields.Statement.{statement}
 use Rattle.script.proofs.calls.fields.Tie as tie
@@ -21,29 +21,29 @@ abbrev μ-loop : tie.MeasureT-loop
 loop-holds : tie.Need-loop-holds Inv-loop μ-loop
 loop-holds c = refl
 
-bare-requires : tie.Need-bare-requires Inv-loop μ-loop
-bare-requires c κs = search needs
+bad-requires : tie.Need-bad-requires Inv-loop μ-loop
+bad-requires c κs = search needs
 
 returns : tie.Need-returns Inv-loop μ-loop
 returns c =
     let l = c .before .before .before .loop in
     let a = c .before .before .before .before .before .before .args in
-    c .bare .ensures ∙ sym (l .inv ∙ missing (a .kinds .now) (a .line .now) (a .code) (l .from) (l .i) (l .args) (omega arith) (omega arith))
+    c .bad .ensures ∙ sym (l .inv ∙ missing (a .kinds .now) (a .line .now) (a .code) (l .from) (l .i) (l .args) (omega arith) (omega arith))
 
-bare-requires-2 : tie.Need-bare-requires-2 Inv-loop μ-loop
-bare-requires-2 c κs = search needs
+bad-requires-2 : tie.Need-bad-requires-2 Inv-loop μ-loop
+bad-requires-2 c κs = search needs
 
 returns-2 : tie.Need-returns-2 Inv-loop μ-loop
 returns-2 c =
     let l = c .before .before .before .before .loop in
     let a = c .before .before .before .before .before .before .before .args in
-    c .bare2 .ensures ∙ sym (l .inv ∙ many (a .kinds .now) (a .line .now) (a .code) (l .from) (l .i) (l .args) (omega arith) (omega arith) (omega arith))
+    c .bad2 .ensures ∙ sym (l .inv ∙ many (a .kinds .now) (a .line .now) (a .code) (l .from) (l .i) (l .args) (omega arith) (omega arith) (omega arith))
 
 index-of-requires : tie.Need-index-of-requires Inv-loop μ-loop
 index-of-requires c κs = search needs
 
-shared-slice-read-field : tie.Need-shared-slice-read-field Inv-loop μ-loop
-shared-slice-read-field c = search needs
+shared-slice-read-kind : tie.Need-shared-slice-read-kind Inv-loop μ-loop
+shared-slice-read-kind c = search needs
 
 sub-field : tie.Need-sub-field Inv-loop μ-loop
 sub-field c = omega (arith, c .before .index-of .ensures)
@@ -66,15 +66,18 @@ enum-known-value c = search needs
 enum-told : tie.Need-enum-told Inv-loop μ-loop
 enum-told c = search needs
 
-bare-requires-3 : tie.Need-bare-requires-3 Inv-loop μ-loop
-bare-requires-3 c κs = search needs
+add-bad : tie.Need-add-bad Inv-loop μ-loop
+add-bad c = omega arith
+
+bad-requires-3 : tie.Need-bad-requires-3 Inv-loop μ-loop
+bad-requires-3 c κs = search needs
 
 returns-3 : tie.Need-returns-3 Inv-loop μ-loop
 returns-3 c =
     let l = c .before .before .before .before .before .before .before .before .before .before .loop in
     let a = c .before .before .before .before .before .before .before .before .before .before .before .before .before .args in
     let end = c .before .before .before .before .before .before .index-of in
-    c .bare3 .ensures ∙ sym (l .inv ∙ wrong (a .kinds .now) (a .line .now) (a .code) (l .from) (l .i) (l .args) (end .result) (omega arith) (omega arith) (omega arith) (end .ensures) (sym (c .before .before .before .field .ensures) ∙ c .before .enum-told .given .1))
+    c .bad3 .ensures ∙ sym (l .inv ∙ wrong (a .kinds .now) (a .line .now) (a .code) (l .from) (l .i) (l .args) (end .result) (omega arith) (omega arith) (omega arith) (end .ensures) (sym (c .before .before .before .field .ensures) ∙ c .before .enum-told .given .1))
 
 mul-args : tie.Need-mul-args Inv-loop μ-loop
 mul-args c = omega arith
@@ -102,14 +105,14 @@ loop-again c =
     let end = c .before .before .before .before .before .before .index-of in
     l .inv ∙ right (a .kinds .now) (a .line .now) (a .code) (l .from) (l .i) (l .args) (end .result) (omega arith) (omega arith) (omega arith) (end .ensures) (c .before .value .given .0 .0) (sym (c .before .before .before .field .ensures) ∙ c .before .value .given .1)
 
-bare-requires-4 : tie.Need-bare-requires-4 Inv-loop μ-loop
-bare-requires-4 c κs = search needs
+bad-requires-4 : tie.Need-bad-requires-4 Inv-loop μ-loop
+bad-requires-4 c κs = search needs
 
 returns-4 : tie.Need-returns-4 Inv-loop μ-loop
 returns-4 c =
     let l = c .before .before .before .loop in
     let a = c .before .before .before .before .before .before .args in
-    c .bare4 .ensures ∙ sym (l .inv ∙ extra (a .kinds .now) (a .line .now) (a .code) (l .from) (l .i) (l .args) (omega arith) (omega arith))
+    c .bad4 .ensures ∙ sym (l .inv ∙ extra (a .kinds .now) (a .line .now) (a .code) (l .from) (l .i) (l .args) (omega arith) (omega arith))
 
 returns-5 : tie.Need-returns-5 Inv-loop μ-loop
 returns-5 c =
@@ -124,19 +127,20 @@ fields-spec =
     Inv-loop
     μ-loop
     loop-holds
-    bare-requires
+    bad-requires
     returns
-    bare-requires-2
+    bad-requires-2
     returns-2
     index-of-requires
-    shared-slice-read-field
+    shared-slice-read-kind
     sub-field
     part-field-start
     part-field-end
     field-requires
     enum-known-value
     enum-told
-    bare-requires-3
+    add-bad
+    bad-requires-3
     returns-3
     mul-args
     array-write-args
@@ -144,6 +148,6 @@ fields-spec =
     add-i
     loop-less
     loop-again
-    bare-requires-4
+    bad-requires-4
     returns-4
     returns-5)

@@ -3,60 +3,60 @@ use mathlib.Core.Path.{sym, _∙_}
 use native.Mathlib.Omega.{arith}
 use borrow.Author.Needs.{needs}
 use Rattle.text.specs.Ascii.{ascii}
-use Rattle.words.specs.Word.{split}
+use Rattle.script_words.specs.Word.{split}
 use Rattle.script.specs.Line.{calls}
 use Rattle.script.proofs.Parsing.{too-long, nothing, comment, tabbed, returned, called}
 use Rattle.script.proofs.calls.parse.Statement.{statement}
 use Rattle.script.proofs.calls.parse.Tie as tie
 
-bare-requires : tie.Need-bare-requires
-bare-requires c κs = search needs
+bad-requires : tie.Need-bad-requires
+bad-requires c κs = search needs
 
 returns : tie.Need-returns
 returns c =
     let a = c .before .before .before .args in
     let s = a .line .now in
-    c .bare .ensures ∙ sym (too-long s (omega arith))
+    c .bad .ensures ∙ sym (too-long s (omega arith))
 
-bare-requires-2 : tie.Need-bare-requires-2
-bare-requires-2 c κs = search needs
+bare-requires : tie.Need-bare-requires
+bare-requires c κs = search needs
 
 returns-2 : tie.Need-returns-2
 returns-2 c =
     let a = c .before .before .before .before .args in
     let s = a .line .now in
-    c .bare2 .ensures ∙ sym (nothing s (c .before .if2 .taken))
+    c .bare .ensures ∙ sym (nothing s (c .before .if2 .taken))
 
 shared-slice-read-if3 : tie.Need-shared-slice-read-if3
 shared-slice-read-if3 c = search needs
 
-bare-requires-3 : tie.Need-bare-requires-3
-bare-requires-3 c κs = search needs
+bare-requires-2 : tie.Need-bare-requires-2
+bare-requires-2 c κs = search needs
 
 returns-3 : tie.Need-returns-3
 returns-3 c =
     let a = c .before .before .before .before .before .before .args in
     let s = a .line .now in
-    c .bare3 .ensures ∙ sym (comment s (omega arith) (c .before .before .before .if2 .left) (c .before .if3 .taken))
+    c .bare2 .ensures ∙ sym (comment s (omega arith) (c .before .before .before .if2 .left) (c .before .if3 .taken))
 
 index-of-requires : tie.Need-index-of-requires
 index-of-requires c κs = search needs
 
-bare-requires-4 : tie.Need-bare-requires-4
-bare-requires-4 c κs = search needs
+bad-requires-2 : tie.Need-bad-requires-2
+bad-requires-2 c κs = search needs
 
 returns-4 : tie.Need-returns-4
 returns-4 c =
     let a = c .before .before .before .before .before .before .before .before .args in
     let s = a .line .now in
     let tab = c .before .before .index-of in
-    c .bare4 .ensures ∙ sym (tabbed s (omega arith) (c .before .before .before .before .before .if2 .left) (c .before .before .before .if3 .left) (tab .result) (tab .ensures) (c .before .if4 .taken))
+    c .bad2 .ensures ∙ sym (tabbed s (omega arith) (c .before .before .before .before .before .if2 .left) (c .before .before .before .if3 .left) (tab .result) (tab .ensures) (c .before .if4 .taken))
 
 index-of-requires-2 : tie.Need-index-of-requires-2
 index-of-requires-2 c κs = search needs
 
-bare-requires-5 : tie.Need-bare-requires-5
-bare-requires-5 c κs = search needs
+bad-requires-3 : tie.Need-bad-requires-3
+bad-requires-3 c κs = search needs
 
 returns-5 : tie.Need-returns-5
 returns-5 c =
@@ -64,7 +64,7 @@ returns-5 c =
     let s = a .line .now in
     let tab = c .before .before .before .before .index-of in
     let ret = c .before .before .index-of2 in
-    c .bare5 .ensures
+    c .bad3 .ensures
     ∙ sym (returned s (omega arith) (c .before .before .before .before .before .before .before .if2 .left) (c .before .before .before .before .before .if3 .left) (tab .result) (tab .ensures) (c .before .before .before .if4 .left) (ret .result) (ret .ensures) (c .before .if5 .taken))
 
 slice-aggregate-call-by : tie.Need-slice-aggregate-call-by
@@ -87,18 +87,18 @@ pub parse-spec : {M : Type 1} → statement M
 parse-spec =
     tie.close
     (tie.spec
-    bare-requires
+    bad-requires
     returns
-    bare-requires-2
+    bare-requires
     returns-2
     shared-slice-read-if3
-    bare-requires-3
+    bare-requires-2
     returns-3
     index-of-requires
-    bare-requires-4
+    bad-requires-2
     returns-4
     index-of-requires-2
-    bare-requires-5
+    bad-requires-3
     returns-5
     slice-aggregate-call-by
     call-by-requires

@@ -1,22 +1,18 @@
 -- `session::start::from_limits` meets its contract. Assumes nothing.
+use Rattle.motor_core.proofs.Limits.{by-check}
 use Prim.Native.Nat.{ℕ}
 use mathlib.Core.Path.{_≡_, sym, ap, _∙_}
 use Rattle.motor_core.specs.Model.{limits-of}
 use Rattle.motor_core.specs.declared.model.LimitCheck.{LimitCheck}
 use Rattle.motor_core.proofs.Turned.{turned, passed}
-use Rattle.models.specs.declared.list.Maxima.{Maxima}
+use Rattle.model_list.specs.declared.Maxima.{Maxima}
 use Rattle.session.specs.Start.{by-limits, from-limits}
 use Rattle.session.specs.declared.Session.{Session}
-use Rattle.session.specs.declared.start.Outcome.the-variants.{Started as Begun}
+use Rattle.session.specs.declared.start.StartOutcome.the-variants.{Started as Begun}
 use Rattle.session.specs.declared.start.Started.{Started}
 use borrow.Author.Needs.{needs}
 use Rattle.session.proofs.start.from_limits.Statement.{statement}
 use Rattle.session.proofs.start.from_limits.Tie as tie
-
--- by what came of the limits
-told-limits : (made told : LimitCheck) (motor feedback : ℕ) (m : Maxima) → made ≡ limits-of (m .«p_max») (m .«v_max») (m .«t_max») → made ≡ told → by-limits told motor feedback ≡ from-limits motor feedback m
-unfolding from-limits
-told-limits made told motor feedback m e h = ap (λ (l : LimitCheck). by-limits l motor feedback) (sym h ∙ e)
 
 from-maxima-requires : tie.Need-from-maxima-requires
 from-maxima-requires c κs = search needs
@@ -37,29 +33,32 @@ refused-requires-2 : tie.Need-refused-requires-2
 refused-requires-2 c κs = search needs
 
 returns : tie.Need-returns
+unfolding from-limits
 returns c =
     let told = c .before .before .before .before in
     let a = told .before .before .before .args in
     c .refused2 .ensures
     ∙ turned _ _ _ _ (c .before .before .accepts-motor-id .ensures) (c .before .if1 .taken)
-    ∙ told-limits _ _ (a .motor-id) (a .feedback-id) (a .maxima) (told .before .before .from-maxima .ensures) (told .made2 .given .1)
+    ∙ by-check (λ check. by-limits check (a .motor-id) (a .feedback-id)) (told .before .before .from-maxima .ensures) (told .made2 .given .1)
 
 fresh-requires : tie.Need-fresh-requires
 fresh-requires c κs = search needs
 
 returns-2 : tie.Need-returns-2
+unfolding from-limits
 returns-2 c =
     let told = c .before .before in
     let a = told .before .before .before .args in
-    c .refused .ensures ∙ told-limits _ _ (a .motor-id) (a .feedback-id) (a .maxima) (told .before .before .from-maxima .ensures) (told .made .given .1)
+    c .refused .ensures ∙ by-check (λ check. by-limits check (a .motor-id) (a .feedback-id)) (told .before .before .from-maxima .ensures) (told .made .given .1)
 
 returns-3 : tie.Need-returns-3
+unfolding from-limits
 returns-3 c =
     let told = c .before .before .before .before in
     let a = told .before .before .before .args in
     ap {B = Started} (λ (s : Session). record { session = s; outcome = Begun }) (c .fresh .ensures)
     ∙ passed _ _ _ _ (c .before .before .accepts-motor-id .ensures) (c .before .if1 .left)
-    ∙ told-limits _ _ (a .motor-id) (a .feedback-id) (a .maxima) (told .before .before .from-maxima .ensures) (told .made2 .given .1)
+    ∙ by-check (λ check. by-limits check (a .motor-id) (a .feedback-id)) (told .before .before .from-maxima .ensures) (told .made2 .given .1)
 
 pub from-limits-spec : {M : Type 1} → statement M
 from-limits-spec =

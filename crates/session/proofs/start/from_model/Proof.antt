@@ -3,10 +3,10 @@ use Prim.Native.Nat.{ℕ}
 use mathlib.Core.Path.{_≡_, sym, ap, _∙_}
 use mathlib.Core.List.{List}
 use denote.Ref.{now}
-use Rattle.models.specs.Counted.{models-of}
-use Rattle.models.specs.Models.{limits-by-name}
-use Rattle.models.specs.declared.list.MotorModelSpec.{MotorModelSpec}
-use Rattle.models.specs.declared.list.ModelLimits.{ModelLimits}
+use Rattle.model_list.specs.Counted.{models-of}
+use Rattle.model_list.specs.Models.{limits-by-name}
+use Rattle.model_list.specs.declared.MotorModelSpec.{MotorModelSpec}
+use Rattle.model_list.specs.declared.ModelLimits.{ModelLimits}
 use Rattle.session.specs.Start.{by-name, from-model}
 use borrow.Author.Needs.{needs}
 use Rattle.session.proofs.start.from_model.Statement.{statement}

@@ -1,7 +1,7 @@
 -- `session::start::refused` meets its contract. Assumes nothing.
 use mathlib.Core.Path.{ap}
 use Rattle.session.specs.declared.Session.{Session}
-use Rattle.session.specs.declared.start.Outcome.the-variants.{Refused}
+use Rattle.session.specs.declared.start.StartOutcome.the-variants.{Refused}
 use Rattle.session.specs.declared.start.Started.{Started}
 use borrow.Author.Needs.{needs}
 use Rattle.session.proofs.start.refused.Statement.{statement}

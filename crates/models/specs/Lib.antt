@@ -1,3 +1,0 @@
-pub mod Counted
-pub mod Display
-pub mod Models

@@ -1,0 +1,2 @@
+pub mod OfRegister
+pub mod Received

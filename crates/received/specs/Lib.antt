@@ -1,3 +1,0 @@
-pub mod OfRegister
-pub mod Received
-pub mod Status

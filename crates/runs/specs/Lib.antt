@@ -1,3 +1,0 @@
-pub mod Effects
-pub mod Runs
-pub mod Slots

@@ -1,0 +1,3 @@
+pub mod Effects
+pub mod Answer
+pub mod Slots
