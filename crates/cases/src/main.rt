@@ -5,9 +5,9 @@ mod sessions;
 
 use float::F32Bits;
 use libc::STDOUT_FILENO;
+use model_damiao::damiao_models;
 use model_list::ModelLimits;
 use model_list::Names;
-use model_list::damiao_models;
 use model_list::model_limits;
 use model_list::no_names;
 use model_list::places;
@@ -15,8 +15,8 @@ use model_query::Query;
 use model_shown::display_models;
 use model_suggest::suggest_models_by_limits;
 use motor_core::name::Name;
+use protocol_feedback::Decoded;
 use protocol_frame::Command;
-use protocol_received::Decoded;
 
 pub(crate) fn text(words: &[u8]) {
     io::write_all(STDOUT_FILENO, words);
@@ -41,7 +41,7 @@ fn position_code(limit: F32Bits, position: f32) -> u64 {
 // The position that a code decodes to.
 fn position(limit: F32Bits, d1: u8, d2: u8) -> f32 {
     let max = float::of_bits(limit);
-    let read = protocol_received::decode_feedback(max, max, max, [0, d1, d2, 0, 0, 0, 0, 0]);
+    let read = protocol_feedback::decode_feedback(max, max, max, [0, d1, d2, 0, 0, 0, 0, 0]);
     match read {
         Decoded::Feedback(f) => f.pos,
         Decoded::Refused(_) => 0.0,

@@ -4,8 +4,6 @@ use crate::sessions::started;
 use crate::sessions::take;
 use crate::text;
 use libc::STDOUT_FILENO;
-use motor_core::time::Duration;
-use motor_core::time::Instant;
 use registers::RegisterDataType;
 use run_machine::Machine;
 use run_machine::RunResult;
@@ -18,13 +16,15 @@ use session::Phase;
 use session::Run;
 use session::Session;
 use session_answer::AfterCall;
-use session_answer::Told;
-use session_answer::Wanted;
 use session_answer::answer_run;
 use session_begin::ensure_control_mode;
 use session_begin::get_register_f32;
 use session_begin::get_register_u32;
 use session_begin::write_register_u32;
+use session_step::Told;
+use session_step::Wanted;
+use time::Duration;
+use time::Instant;
 
 const MINUTE: Duration = Duration(60_000_000_000);
 

@@ -1,10 +1,9 @@
 // What a session makes of a frame, at the ends of what is taken and counted.
 use crate::line;
 use crate::text;
+use model_damiao::damiao_models;
 use model_list::Maxima;
-use model_list::damiao_models;
 use motor_core::bus::CanFrame;
-use motor_core::time::Instant;
 use session::Head;
 use session::Session;
 use session::start::StartOutcome;
@@ -13,11 +12,12 @@ use session::start::from_limits;
 use session::start::from_model;
 use session_frame::AfterFrame;
 use session_frame::FrameOutcome;
-use session_frame::process_feedback_frame;
+use session_lent::take_frame;
 use state_cache::Cached;
 use state_cache::Entry;
 use state_cache::cached_entry;
 use state_feedback::Latest;
+use time::Instant;
 
 const FEEDBACK: u64 = 0x1100_0000_0000_1e28;
 
@@ -54,7 +54,7 @@ fn frame(data: u64) -> CanFrame {
 }
 
 pub(crate) fn take(session: Session, data: u64, reading: u64) -> AfterFrame {
-    process_feedback_frame(session, frame(data), Instant(reading))
+    take_frame(session, frame(data), Instant(reading))
 }
 
 // The number of the latest record, 0 if there is none.

@@ -7,9 +7,9 @@ use crate::print::put_next;
 use crate::print::put_numbered;
 use crate::print::put_refused;
 use crate::print::put_status_name;
-use protocol_received::Decoded;
+use protocol_feedback::Decoded;
+use protocol_feedback::SensorFeedback;
 use protocol_received::FrameClass;
-use protocol_received::SensorFeedback;
 use registers::RegisterAccess;
 use registers::RegisterDataType;
 use registers::RegisterInfo;
@@ -28,7 +28,7 @@ pub(crate) fn answer(call: Call, output: &mut [u8], to: usize) -> usize {
 }
 
 fn decoded(call: Call) -> Decoded {
-    protocol_received::decode_feedback(
+    protocol_feedback::decode_feedback(
         real_at(call, 0),
         real_at(call, 1),
         real_at(call, 2),

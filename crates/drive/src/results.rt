@@ -3,15 +3,15 @@ use crate::print::put_numbered;
 use crate::print::put_refused;
 use crate::values::put_feedback_state;
 use crate::values::put_value;
-use motor_core::time::Duration;
 use registers::RegisterValue;
 use run_machine::RunResult;
 use run_want::Failure;
-use session_answer::Told;
-use session_answer::Wanted;
+use session_step::Told;
+use session_step::Wanted;
 use state_feedback::MotorFeedbackState;
 use text::put;
 use text::put_hex;
+use time::Duration;
 
 pub(crate) fn put_told(told: Told, output: &mut [u8], to: usize) -> usize {
     match told {

@@ -3,8 +3,6 @@ use crate::fields::u8_at;
 use crate::fields::u32_at;
 use crate::fields::u64_at;
 use float::F32Bits;
-use motor_core::time::Duration;
-use motor_core::time::Instant;
 use run_want::Answer;
 use run_want::SendResult;
 use script::Call;
@@ -19,41 +17,36 @@ use session_begin::request_fresh_state;
 use session_begin::store_parameters;
 use session_begin::write_register_f32;
 use session_begin::write_register_u32;
+use time::Duration;
+use time::Instant;
 
-// What the starts take.
-struct Given {
-    rid: u8,
-    value: u32,
-    mode: u32,
-    timeout: Duration,
+fn timeout(call: Call) -> Duration {
+    Duration(u64_at(call, 1))
 }
 
-fn arguments(call: Call) -> Given {
-    Given {
-        rid: u8_at(call, 0),
-        value: u32_at(call, 1),
-        mode: u32_at(call, 0),
-        timeout: Duration(if call.code == calls::FRESH_STATE {
-            u64_at(call, 0)
-        } else {
-            u64_at(call, 1)
-        }),
+fn read(session: Session, call: Call) -> AfterCall {
+    if call.code == calls::GET_U32 {
+        return get_register_u32(session, u8_at(call, 0), timeout(call));
     }
+    get_register_f32(session, u8_at(call, 0), timeout(call))
+}
+
+fn write(session: Session, call: Call) -> AfterCall {
+    if call.code == calls::WRITE_U32 {
+        return write_register_u32(session, u8_at(call, 0), u32_at(call, 1));
+    }
+    write_register_f32(session, u8_at(call, 0), F32Bits(u32_at(call, 1)))
 }
 
 pub(crate) fn turn(session: Session, call: Call) -> AfterCall {
     let code = call.code;
-    let given = arguments(call);
-    let timeout = given.timeout;
     match code {
-        calls::GET_U32 => get_register_u32(session, given.rid, timeout),
-        calls::GET_F32 => get_register_f32(session, given.rid, timeout),
-        calls::WRITE_U32 => write_register_u32(session, given.rid, given.value),
-        calls::WRITE_F32 => write_register_f32(session, given.rid, F32Bits(given.value)),
-        calls::FRESH_STATE => request_fresh_state(session, timeout),
-        calls::STORE => store_parameters(session),
-        calls::MODE => ensure_control_mode(session, given.mode, timeout),
-        _ => answer_run(session, answer_of(call)),
+        calls::GET_U32 | calls::GET_F32 => return read(session, call),
+        calls::WRITE_U32 | calls::WRITE_F32 => return write(session, call),
+        calls::FRESH_STATE => return request_fresh_state(session, Duration(u64_at(call, 0))),
+        calls::STORE => return store_parameters(session),
+        calls::MODE => return ensure_control_mode(session, u32_at(call, 0), timeout(call)),
+        _ => return answer_run(session, answer_of(call)),
     }
 }
 

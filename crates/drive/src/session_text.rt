@@ -4,7 +4,6 @@ use crate::print::put_next;
 use crate::print::put_numbered;
 use crate::values::put_feedback_state;
 use crate::values::put_value;
-use motor_core::time::Instant;
 use registers::RegisterValue;
 use session::Head;
 use session::Phase;
@@ -15,6 +14,7 @@ use state_cache::Slot;
 use state_feedback::FeedbackSnapshot;
 use state_feedback::Latest;
 use text::put;
+use time::Instant;
 
 pub(crate) fn put_session(session: Session, output: &mut [u8], to: usize) -> usize {
     let at = put_head(session.head, is_open(session.run), output, to);

@@ -9,10 +9,9 @@ use crate::print::put_refused;
 use crate::results::put_told;
 use crate::running::turn;
 use crate::session_text::put_session;
+use model_damiao::damiao_models;
 use model_list::Maxima;
-use model_list::damiao_models;
 use motor_core::bus::CanFrame;
-use motor_core::time::Instant;
 use script::Call;
 use script::calls;
 use script_words::second_word;
@@ -28,8 +27,9 @@ use session::start::from_model;
 use session::start::no_session;
 use session_frame::AfterFrame;
 use session_frame::FrameOutcome;
-use session_frame::process_feedback_frame;
+use session_lent::take_frame;
 use text::put;
+use time::Instant;
 
 // The session in use, once one has started, and where the output goes on.
 pub(crate) struct State {
@@ -50,12 +50,12 @@ pub(crate) fn unstarted() -> State {
 pub(crate) fn answer(state: State, call: Call, line: &[u8], output: &mut [u8]) -> State {
     let code = call.code;
     match code {
-        calls::START_LIMITS | calls::START_MODEL => start(state, call, line, output),
-        calls::FRAME | calls::FRAME_LENT => take(state, call, output),
-        calls::PATCH => patch(state, call, output),
-        calls::ACCEPTS => ask(state, call, output),
-        calls::SESSION => show(state, output),
-        _ => run(state, call, output),
+        calls::START_LIMITS | calls::START_MODEL => return start(state, call, line, output),
+        calls::FRAME | calls::FRAME_LENT => return take(state, call, output),
+        calls::PATCH => return patch(state, call, output),
+        calls::ACCEPTS => return ask(state, call, output),
+        calls::SESSION => return show(state, output),
+        _ => return run(state, call, output),
     }
 }
 
@@ -120,13 +120,9 @@ fn take(state: State, call: Call, output: &mut [u8]) -> State {
     state_of(done.session, true, to)
 }
 
+// The entry by value lends the session to the other one: both words of the script come here.
 fn taken(session: Session, call: Call) -> AfterFrame {
-    let frame = taken_frame(call);
-    let reading = Instant(u64_at(call, 0));
-    if call.code == calls::FRAME {
-        return process_feedback_frame(session, frame, reading);
-    }
-    session_lent::take_frame(session, frame, reading)
+    take_frame(session, taken_frame(call), Instant(u64_at(call, 0)))
 }
 
 fn taken_frame(call: Call) -> CanFrame {

@@ -3,8 +3,10 @@ use mathlib.Core.Path.{refl}
 use lib.Ieee.{round, div, ofInt, neg, sub, mul, add, le}
 use Rattle.motor_core.specs.Model.{limits-of, limit-accepted}
 use Rattle.registers.specs.Registers.{registers, elem, known}
-use Rattle.protocol_frame.specs.Codes.{uint-to-float}
-use Rattle.protocol_received.specs.Received.{accepted, class, feedback-of, received}
+use Rattle.protocol_codes.specs.Codes.{uint-to-float}
+use Rattle.protocol_address.specs.Address.{accepted}
+use Rattle.protocol_feedback.specs.Feedback.{feedback-of}
+use Rattle.protocol_received.specs.Received.{class, received}
 use Rattle.protocol_status.specs.Status.{status-name}
 use Rattle.session.specs.Session.{fresh}
 use Rattle.session_frame.specs.Frame.{take-frame}

@@ -6,20 +6,21 @@ use lib.Ieee.{round, div, ofInt, neg, le, sub, mul, add, toUnsigned}
 use Rattle.float.specs.Float.{clip}
 use Rattle.motor_core.specs.Model.{limits-of, limit-accepted}
 use Rattle.motor_core.specs.declared.bus.CanFrame.{CanFrame}
-use Rattle.motor_core.specs.declared.time.Instant.{Instant}
+use Rattle.time.specs.declared.Instant.{Instant}
 use Rattle.model_query.specs.Query.{queryable, query-accepted, answer}
 use Rattle.model_list.specs.Counted.{keep}
 use Rattle.model_match.specs.Matching.{magnitude, within, matches, matching-names}
-use Rattle.model_list.specs.Models.{damiao-models}
+use Rattle.model_damiao.specs.Damiao.{damiao-models}
 use Rattle.registers.specs.Registers.{registers, elem, data-type-of}
 use Rattle.registers.specs.Value.{value-of}
 use Rattle.registers.specs.declared.RegisterValue.the-variants.{UInt32}
-use Rattle.protocol_frame.specs.Codes.{float-to-uint, uint-to-float}
+use Rattle.protocol_codes.specs.Codes.{float-to-uint, uint-to-float}
 use Rattle.protocol_frame.specs.Layout.{packed-onto, little-endian, bytes}
 use Rattle.protocol_frame.specs.Command.{frame-for}
 use Rattle.protocol_setpoint.specs.Setpoint.{mit-cmd, mit-data, force-pos-data, scaled}
 use Rattle.protocol_request.specs.Request.{register-read-data, addressed}
-use Rattle.protocol_received.specs.Received.{class, feedback-of, decoded, received, register-value}
+use Rattle.protocol_feedback.specs.Feedback.{feedback-of, decoded}
+use Rattle.protocol_received.specs.Received.{class, received, register-value}
 use Rattle.protocol_status.specs.Status.{status-name}
 use Rattle.state_feedback.specs.declared.Latest.the-variants.{Snapshot}
 use Rattle.state_cache.specs.Cache.{held, slot-of}

@@ -5,9 +5,9 @@ use mathlib.Core.Bool.{Bool, true, false}
 use mathlib.Core.List.{List}
 use lib.Ieee.{neg}
 use Rattle.motor_core.specs.declared.bus.CanFrame.{CanFrame}
-use Rattle.motor_core.specs.declared.time.Instant.{Instant}
+use Rattle.time.specs.declared.Instant.{Instant}
 use Rattle.float.specs.Arithmetic.{float}
-use Rattle.protocol_received.specs.Received.{accepted}
+use Rattle.protocol_address.specs.Address.{accepted}
 use Rattle.protocol_status.specs.declared.StatusName.the-variants.{UnderVoltage}
 use Rattle.state_feedback.specs.declared.FeedbackSnapshot.{FeedbackSnapshot}
 use Rattle.state_feedback.specs.declared.Latest.the-variants.{Snapshot}

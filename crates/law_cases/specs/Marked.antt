@@ -6,24 +6,25 @@ use mathlib.Core.List.{List, [], _∷_}
 use lib.Ieee.{Float, nan, binary32, neg, div}
 use Rattle.motor_core.specs.Model.{from-maxima}
 use Rattle.motor_core.specs.Name.{name-of}
-use Rattle.motor_core.specs.Time.{millis}
+use Rattle.time.specs.Time.{millis}
 use Rattle.motor_core.specs.declared.bus.CanFrame.{CanFrame}
-use Rattle.motor_core.specs.declared.time.Instant.{Instant}
+use Rattle.time.specs.declared.Instant.{Instant}
 use Rattle.model_query.specs.Query.{listed}
 use Rattle.model_match.specs.Matching.{match-models}
-use Rattle.model_list.specs.Models.{damiao-models, list-of}
+use Rattle.model_damiao.specs.Damiao.{damiao-models, list-of}
 use Rattle.model_query.specs.declared.Query.{Query}
 use Rattle.registers.specs.declared.RegisterValue.the-variants.{UInt32}
 use Rattle.float.specs.Arithmetic.{float}
 use Rattle.protocol_setpoint.specs.Setpoint.{mit-cmd, force-pos-cmd}
 use Rattle.protocol_request.specs.Request.{register-read-cmd}
-use Rattle.protocol_received.specs.Received.{class-of, decoded, received}
+use Rattle.protocol_feedback.specs.Feedback.{decoded}
+use Rattle.protocol_received.specs.Received.{class-of, received}
 use Rattle.protocol_status.specs.Status.{status-name}
 use Rattle.protocol_frame.specs.declared.Command.the-variants.{Frame}
 use Rattle.protocol_received.specs.declared.FrameClass.the-variants as Class
-use Rattle.protocol_received.specs.declared.Decoded.the-variants as Decode
+use Rattle.protocol_feedback.specs.declared.Decoded.the-variants as Decode
 use Rattle.protocol_received.specs.declared.Received.the-variants as Receive
-use Rattle.protocol_received.specs.declared.SensorFeedback.{SensorFeedback}
+use Rattle.protocol_feedback.specs.declared.SensorFeedback.{SensorFeedback}
 use Rattle.protocol_status.specs.declared.StatusName.the-variants.{Enabled}
 use Rattle.state_feedback.specs.declared.FeedbackSnapshot.{FeedbackSnapshot}
 use Rattle.state_feedback.specs.declared.Latest.the-variants.{Snapshot}

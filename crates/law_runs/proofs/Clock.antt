@@ -7,8 +7,8 @@ use mathlib.Core.Option.{Option, none, some}
 use native.Mathlib.Nat.{mul-le-mul-left}
 use native.Mathlib.Omega.{arith}
 use borrow.Author.Tests.{leb-false}
-use Rattle.motor_core.specs.declared.time.Instant.{Instant}
-use Rattle.motor_core.specs.declared.time.Duration.{Duration}
+use Rattle.time.specs.declared.Instant.{Instant}
+use Rattle.time.specs.declared.Duration.{Duration}
 use Rattle.run_want.specs.declared.Answer.{Answer}
 use Rattle.run_want.specs.declared.Want.{Want}
 use Rattle.run_want.specs.declared.Want.the-variants as Want

@@ -6,8 +6,8 @@ use mathlib.Core.Logic.{inl, inr}
 use mathlib.Core.Option.{some}
 use borrow.Author.Tests.{leb-true}
 use lib.Dec.{leb}
-use Rattle.motor_core.specs.declared.time.Instant.{Instant}
-use Rattle.motor_core.specs.declared.time.Duration.{Duration}
+use Rattle.time.specs.declared.Instant.{Instant}
+use Rattle.time.specs.declared.Duration.{Duration}
 use Rattle.registers.specs.Value.{same-value, of-type}
 use Rattle.registers.specs.declared.RegisterDataType.{RegisterDataType}
 use Rattle.registers.specs.declared.RegisterValue.{RegisterValue}

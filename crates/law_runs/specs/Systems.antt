@@ -1,8 +1,8 @@
 -- The machines that the laws are about, each by itself. Definitions only.
 use mathlib.Core.Bool.{Bool, cond}
 use mathlib.Core.Option.{Option, none, some}
-use Rattle.motor_core.specs.declared.time.Instant.{Instant}
-use Rattle.motor_core.specs.declared.time.Duration.{Duration}
+use Rattle.time.specs.declared.Instant.{Instant}
+use Rattle.time.specs.declared.Duration.{Duration}
 use Rattle.registers.specs.declared.RegisterValue.{RegisterValue}
 use Rattle.run_wait.specs.Wait.{wait-want, wait-step}
 use Rattle.run_wait.specs.declared.Wait.{Wait}

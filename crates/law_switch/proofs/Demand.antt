@@ -5,8 +5,8 @@ use mathlib.Core.Bool.{Bool}
 use mathlib.Core.List.{List, _∷_}
 use mathlib.Core.Option.{Option, none, some}
 use native.Mathlib.Omega.{arith}
-use Rattle.motor_core.specs.declared.time.Instant.{Instant}
-use Rattle.motor_core.specs.declared.time.Duration.{Duration}
+use Rattle.time.specs.declared.Instant.{Instant}
+use Rattle.time.specs.declared.Duration.{Duration}
 use Rattle.state_cache.specs.declared.Entry.{Entry}
 use Rattle.state_cache.specs.declared.Entry.the-variants.{Empty}
 use Rattle.protocol_hold.specs.Mode.{mode-number}
@@ -20,11 +20,11 @@ use Rattle.run_machine.specs.declared.RunResult.{RunResult}
 use Rattle.session.specs.declared.Head.{Head}
 use Rattle.session.specs.declared.Phase.the-variants.{Open}
 use Rattle.session.specs.declared.Session.{Session}
-use Rattle.session_answer.specs.declared.Told.{Told}
-use Rattle.session_answer.specs.declared.Told.the-variants as Told
+use Rattle.session_step.specs.declared.Told.{Told}
+use Rattle.session_step.specs.declared.Told.the-variants as Told
 use Rattle.session_answer.specs.declared.AfterCall.{AfterCall}
 use Rattle.run_machine.specs.Machine.{machine-want}
-use Rattle.session_answer.specs.Answer.{caller-want}
+use Rattle.session_step.specs.Parts.{caller-want}
 use Rattle.run_arguments.specs.Arguments.{mode-start}
 use Rattle.session_begin.specs.Begin.{opened, with-opened, begin, ensure-control-mode}
 use Rattle.session_begin.proofs.Effects.{start-cases}
@@ -42,7 +42,7 @@ use Rattle.law_switch.proofs.Success.{done-found, found-done}
 use Rattle.law_switch.proofs.Told as Count
 use Rattle.law_switch.proofs.Traced.{none≢some, Traced, traced}
 use Rattle.session.specs.Session.{with-run}
-use Rattle.session_answer.specs.declared.Wanted.the-variants as Wanted
+use Rattle.session_step.specs.declared.Wanted.the-variants as Wanted
 
 -- ---- of one switch, by how it ran
 

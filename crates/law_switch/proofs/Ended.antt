@@ -3,8 +3,8 @@ use Prim.Native.Nat.{_≤_, _^_}
 use mathlib.Core.Path.{_≡_, refl, sym, ap, _∙_, subst}
 use mathlib.Core.List.{List, [], _∷_}
 use mathlib.Core.Option.{none, some}
-use Rattle.motor_core.specs.declared.time.Instant.{Instant}
-use Rattle.motor_core.specs.declared.time.Duration.{Duration}
+use Rattle.time.specs.declared.Instant.{Instant}
+use Rattle.time.specs.declared.Duration.{Duration}
 use Rattle.protocol_hold.specs.declared.ControlMode.{ControlMode}
 use Rattle.run_want.specs.declared.Answer.{Answer}
 use Rattle.run_want.specs.declared.Want.{Want}
@@ -21,14 +21,15 @@ use Rattle.run_machine.specs.declared.RunResult.{RunResult}
 use Rattle.session.specs.declared.Head.{Head}
 use Rattle.session.specs.declared.Phase.the-variants.{Open}
 use Rattle.session.specs.declared.Session.{Session}
-use Rattle.session_answer.specs.Answer.{caller-want, with-reading, stepped, with-step, answer-run}
-use Rattle.session_answer.specs.declared.Told.{Told}
+use Rattle.session_step.specs.Parts.{caller-want, with-reading, stepped}
+use Rattle.session_answer.specs.Answer.{with-step, answer-run}
+use Rattle.session_step.specs.declared.Told.{Told}
 use Rattle.session_answer.specs.declared.AfterCall.{AfterCall}
 use Rattle.session_answer.proofs.Effects.{entry, answer-taken, answerable}
 use Rattle.law_switch.specs.Claim.{answer, told, step, Gave, Turn, result-in, result-of, gave-after, Accepted}
 use Rattle.law_switch.proofs.Ran.{machine, onward-cases, Ran}
 use Rattle.law_switch.proofs.Traced.{none≢some, want-on, end-of}
-use Rattle.session_answer.specs.declared.Told.the-variants as Told
+use Rattle.session_step.specs.declared.Told.the-variants as Told
 
 wants-accepted : (h : Head) (w : Want) → Accepted (Told.Want (caller-want h w))
 unfolding Accepted

@@ -4,8 +4,8 @@ use mathlib.Core.Path.{_≡_, refl, sym, ap, _∙_, subst}
 use mathlib.Core.Bool.{Bool, true, false, cond, true≢false}
 use mathlib.Core.Option.{Option, none, some}
 use borrow.Author.Tests.{le-leb, eqb-true, eq-eqb}
-use Rattle.motor_core.specs.declared.time.Instant.{Instant}
-use Rattle.motor_core.specs.declared.time.Duration.{Duration}
+use Rattle.time.specs.declared.Instant.{Instant}
+use Rattle.time.specs.declared.Duration.{Duration}
 use Rattle.registers.specs.Value.{same-value, of-type, type-of, bits-of}
 use Rattle.registers.specs.declared.RegisterDataType.the-variants as Typed
 use Rattle.registers.specs.declared.RegisterValue.{RegisterValue}

@@ -4,16 +4,16 @@ use mathlib.Core.Path.{_≡_, refl, sym}
 use mathlib.Core.Bool.{true, true≢false}
 use mathlib.Core.Option.{Option, none, some}
 use native.Mathlib.Omega.{arith}
-use Rattle.motor_core.specs.declared.time.Instant.{Instant}
-use Rattle.motor_core.proofs.Readings.{between}
+use Rattle.time.specs.declared.Instant.{Instant}
+use Rattle.time.proofs.Readings.{between}
 use Rattle.run_want.specs.Want.{fits}
 use Rattle.run_want.specs.declared.Answer.{Answer}
 use Rattle.run_want.specs.declared.Answer.the-variants.{Reading, Send as Sending, Slept}
 use Rattle.run_want.specs.declared.Want.{Want}
 use Rattle.run_want.specs.declared.Want.the-variants.{Clock, Send, Sleep}
 use Rattle.session.specs.declared.Head.{Head}
-use Rattle.session_answer.specs.Answer.{caller-want, answer-accepted, with-reading}
-use Rattle.session_answer.specs.declared.Told.the-variants as Told
+use Rattle.session_step.specs.Parts.{caller-want, answer-accepted, with-reading}
+use Rattle.session_step.specs.declared.Told.the-variants as Told
 use Rattle.law_runs.specs.Clock.{known-after, fine, Clock as Known, Moved, Later, moving}
 use Rattle.law_switch.specs.Claim.{reading-or, Moves}
 

@@ -6,8 +6,8 @@ use mathlib.Core.List.{List, [], _∷_}
 use mathlib.Core.Option.{none, some}
 use native.Mathlib.Nat.{le-refl}
 use native.Mathlib.Omega.{arith}
-use Rattle.motor_core.specs.declared.time.Instant.{Instant}
-use Rattle.motor_core.specs.declared.time.Duration.{Duration}
+use Rattle.time.specs.declared.Instant.{Instant}
+use Rattle.time.specs.declared.Duration.{Duration}
 use Rattle.motor_core.specs.declared.bus.CanFrame.{CanFrame}
 use Rattle.protocol_hold.specs.declared.ControlMode.{ControlMode}
 use Rattle.state_cache.specs.declared.Entry.{Entry}
@@ -36,16 +36,17 @@ use Rattle.session.specs.declared.Session.{Session}
 use Rattle.session.specs.Session.{patch as patch-latest}
 use Rattle.session_frame.specs.Frame.{take-frame}
 use Rattle.session_frame.proofs.Effects as Frame
-use Rattle.session_answer.specs.Answer.{caller-want, answer-accepted, with-reading, stepped, phase-place, entry-at, with-step, answer-run}
-use Rattle.session_answer.specs.declared.Told.{Told}
-use Rattle.session_answer.specs.declared.Told.the-variants as Told
+use Rattle.session_step.specs.Parts.{caller-want, answer-accepted, with-reading, stepped}
+use Rattle.session_answer.specs.Answer.{phase-place, entry-at, with-step, answer-run}
+use Rattle.session_step.specs.declared.Told.{Told}
+use Rattle.session_step.specs.declared.Told.the-variants as Told
 use Rattle.session_answer.specs.declared.AfterCall.{AfterCall}
 use Rattle.session_answer.proofs.Effects.{entry, answer-cases, answer-taken}
 use Rattle.session_begin.proofs.Effects.{start-cases}
 use Rattle.law_switch.specs.Claim.{Start, Call, start, answer, frame-lent, patch, Returned, told, start-run, step, open-want, events, session-after, Gave, Turn, taken-in, reply-with, turn-in, turn-of, add-turn, turns}
 use Rattle.law_switch.proofs.Sessions.{starting, is-beginning, mode-entry, Sound, answer-sound, patch-sound, frame-sound, frame-entry}
-use Rattle.session_answer.specs.declared.Wanted.{Wanted}
-use Rattle.session_answer.specs.declared.Wanted.the-variants as Wanted
+use Rattle.session_step.specs.declared.Wanted.{Wanted}
+use Rattle.session_step.specs.declared.Wanted.the-variants as Wanted
 
 -- told by the motor id and the limits alone
 same-told : (h k : Head) (w : Want) → h .«motor_id» ≡ k .«motor_id» → h .limits ≡ k .limits → caller-want h w ≡ caller-want k w

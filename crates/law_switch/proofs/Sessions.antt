@@ -6,7 +6,7 @@ use mathlib.Core.Option.{Option, none, some}
 use lib.ListN.{length}
 use Rattle.motor_core.specs.declared.bus.CanFrame.{CanFrame}
 use Rattle.motor_core.specs.declared.model.PvTLimits.{PvTLimits}
-use Rattle.motor_core.specs.declared.time.Instant.{Instant}
+use Rattle.time.specs.declared.Instant.{Instant}
 use Rattle.registers.specs.declared.RegisterDataType.the-variants.{Float, UInt32}
 use Rattle.registers.specs.declared.RegisterValue.{RegisterValue}
 use Rattle.registers.specs.declared.RegisterValue.the-variants as Value
@@ -28,8 +28,8 @@ use Rattle.session_frame.specs.declared.FrameOutcome.the-variants as FrameOutco
 use Rattle.session_frame.proofs.Effects as Frame
 use Rattle.session_answer.specs.Effects.{Unchanged}
 use Rattle.session_answer.specs.Answer.{answer-run}
-use Rattle.session_answer.specs.declared.Told.{Told}
-use Rattle.session_answer.specs.declared.Told.the-variants.{Want, Result, Refused}
+use Rattle.session_step.specs.declared.Told.{Told}
+use Rattle.session_step.specs.declared.Told.the-variants.{Want, Result, Refused}
 use Rattle.session_answer.specs.declared.AfterCall.{AfterCall}
 use Rattle.session_answer.proofs.Effects.{answer-keeps, answer-last, answer-refused}
 use Rattle.run_arguments.specs.Arguments.{get-start, write-start, fresh-state-start, store-start, mode-start}

@@ -8,11 +8,11 @@ use lib.Dec.{eqb}
 use Rattle.motor_core.specs.Bus.{motor-id-accepted}
 use Rattle.motor_core.specs.Error as Error
 use Rattle.motor_core.specs.Model.{limits-of}
-use Rattle.motor_core.specs.Time.{timeout-accepted}
+use Rattle.time.specs.Time.{timeout-accepted}
 use Rattle.motor_core.specs.declared.model.LimitCheck.{LimitCheck}
 use Rattle.motor_core.specs.declared.model.LimitCheck.the-variants as Check
 use Rattle.motor_core.specs.declared.model.PvTLimits.{PvTLimits}
-use Rattle.motor_core.specs.declared.time.Duration.{Duration}
+use Rattle.time.specs.declared.Duration.{Duration}
 use Rattle.model_list.specs.Models.{limits-by-name}
 use Rattle.model_list.specs.declared.ModelLimits.{ModelLimits}
 use Rattle.model_list.specs.declared.ModelLimits.the-variants as Named

@@ -6,8 +6,8 @@ use mathlib.Core.Logic.{_⊎_, inl, inr}
 use mathlib.Core.List.{List, [], _∷_, _++_}
 use mathlib.Core.Option.{Option, none, some}
 use native.Mathlib.Omega.{arith}
-use Rattle.motor_core.specs.declared.time.Instant.{Instant}
-use Rattle.motor_core.specs.declared.time.Duration.{Duration}
+use Rattle.time.specs.declared.Instant.{Instant}
+use Rattle.time.specs.declared.Duration.{Duration}
 use Rattle.registers.specs.declared.RegisterValue.the-variants.{UInt32}
 use Rattle.protocol_hold.specs.Mode.{mode-number}
 use Rattle.protocol_hold.specs.declared.ControlMode.{ControlMode}
@@ -39,8 +39,8 @@ use Rattle.run_machine.specs.declared.RunResult.{RunResult}
 use Rattle.run_machine.specs.declared.RunResult.the-variants as Result
 use Rattle.session.specs.declared.Head.{Head}
 use Rattle.session.specs.declared.Session.{Session}
-use Rattle.session_answer.specs.Answer.{caller-want, with-reading}
-use Rattle.session_answer.specs.declared.Told.the-variants as Told
+use Rattle.session_step.specs.Parts.{caller-want, with-reading}
+use Rattle.session_step.specs.declared.Told.the-variants as Told
 use Rattle.law_runs.specs.Ends.{wait-opening, Look, Since}
 use Rattle.law_switch.specs.Claim.{Gave, Turn, gaves, once, count, a-send, on-7ff, wants-send, reads-mode, mode-read, result-of, reading-or, gave-after, reading-after, Looks, Found, a-want, send-to}
 use Rattle.law_switch.proofs.ModeReads.{mode-ask, in-read, ask-of, Saw, Entered, Law, switch-law, Ends-done, ends-done, Quiet, Wants-send, Stays-quiet, sending-quiet, stays-quiet, quiet-sleep}

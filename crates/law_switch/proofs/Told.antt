@@ -26,9 +26,9 @@ use Rattle.switch_stage.specs.declared.Stage.the-variants.{Remaining, Reading, 
 use Rattle.switch_stage.specs.declared.Switch.{Switch}
 use Rattle.switch_stage.specs.declared.Switch.the-variants.{Starting, Begun}
 use Rattle.session.specs.declared.Head.{Head}
-use Rattle.session_answer.specs.Answer.{caller-want}
-use Rattle.session_answer.specs.declared.Told.the-variants as Told
-use Rattle.session_answer.specs.declared.Wanted.the-variants as Wanted
+use Rattle.session_step.specs.Parts.{caller-want}
+use Rattle.session_step.specs.declared.Told.the-variants as Told
+use Rattle.session_step.specs.declared.Wanted.the-variants as Wanted
 use Rattle.law_runs.specs.Trace.{Label, label, counted}
 use Rattle.law_switch.specs.Claim.{Gave, mode-read, mode-write, read-frame, write-frame, shared, once, a-send, a-sleep, on-7ff, wants-send, wants-sleep, any, reads-mode, writes-mode, a-want, send-to, is-sleep}
 

@@ -5,8 +5,8 @@ use mathlib.Core.Bool.{Bool, false}
 use mathlib.Core.List.{List, [], _∷_}
 use mathlib.Core.Option.{Option, none, some}
 use lib.ListN.{length}
-use Rattle.motor_core.specs.declared.time.Instant.{Instant}
-use Rattle.motor_core.specs.declared.time.Duration.{Duration}
+use Rattle.time.specs.declared.Instant.{Instant}
+use Rattle.time.specs.declared.Duration.{Duration}
 use Rattle.protocol_hold.specs.declared.ControlMode.{ControlMode}
 use Rattle.run_want.specs.declared.Want.{Want}
 use Rattle.run_want.specs.declared.Want.the-variants.{Clock, Send, Sleep}
@@ -20,7 +20,7 @@ use Rattle.run_machine.specs.declared.Machine.{Machine}
 use Rattle.run_machine.specs.declared.RunResult.{RunResult}
 use Rattle.session.specs.declared.Head.{Head}
 use Rattle.session.specs.declared.Session.{Session}
-use Rattle.session_answer.specs.Answer.{caller-want, with-reading}
+use Rattle.session_step.specs.Parts.{caller-want, with-reading}
 use Rattle.law_runs.specs.Clock.{known-after, All-fine, Clock as Known, moving, Moving}
 use Rattle.law_runs.specs.Systems.{running-on, running}
 use Rattle.law_runs.specs.Trace.{Given, wants-from, after}
@@ -28,7 +28,7 @@ use Rattle.law_runs.specs.Trace as Trace
 use Rattle.law_switch.specs.Claim.{Gave, Turn, gaves, once, count, result-in, result-of, reading-or, next-reading, All-move}
 use Rattle.law_switch.proofs.Moving.{Behind, Pending, Goes-on, goes-on}
 use Rattle.law_switch.proofs.Ran.{machine, gave-want, gave-result, Took, onward-cases, Ran}
-use Rattle.session_answer.specs.declared.Told.the-variants as Told
+use Rattle.session_step.specs.declared.Told.the-variants as Told
 
 pub none≢some : {A : Type 0} {x : A} → none ≡ some x → ⊥
 none≢some {A} e = subst is-none e tt

@@ -9,12 +9,13 @@ use lib.Dec.{eqb}
 use lib.ListN.{length}
 use Rattle.float.specs.declared.F32Bits.{F32Bits}
 use Rattle.motor_core.specs.declared.bus.CanFrame.{CanFrame}
-use Rattle.motor_core.specs.declared.time.Instant.{Instant}
-use Rattle.motor_core.specs.declared.time.Duration.{Duration}
+use Rattle.time.specs.declared.Instant.{Instant}
+use Rattle.time.specs.declared.Duration.{Duration}
 use Rattle.registers.specs.declared.RegisterValue.{RegisterValue}
 use Rattle.registers.specs.declared.RegisterValue.the-variants.{UInt32}
 use Rattle.protocol_request.specs.Request.{request-id, register-read-data, register-write-data}
-use Rattle.protocol_received.specs.Received.{d, class-of, register-value}
+use Rattle.protocol_frame.specs.Layout.{d}
+use Rattle.protocol_received.specs.Received.{class-of, register-value}
 use Rattle.protocol_received.specs.declared.FrameClass.{FrameClass}
 use Rattle.protocol_received.specs.declared.FrameClass.the-variants as Class
 use Rattle.model_list.specs.declared.Maxima.{Maxima}
@@ -44,10 +45,10 @@ use Rattle.session_frame.specs.declared.FrameOutcome.{FrameOutcome}
 use Rattle.session_frame.specs.declared.FrameOutcome.the-variants as FrameOutcome
 use Rattle.session_frame.specs.declared.AfterFrame.{AfterFrame}
 use Rattle.session_answer.specs.Answer.{answer-run}
-use Rattle.session_answer.specs.declared.Told.{Told}
-use Rattle.session_answer.specs.declared.Told.the-variants as Told
-use Rattle.session_answer.specs.declared.Wanted.{Wanted}
-use Rattle.session_answer.specs.declared.Wanted.the-variants as Wanted
+use Rattle.session_step.specs.declared.Told.{Told}
+use Rattle.session_step.specs.declared.Told.the-variants as Told
+use Rattle.session_step.specs.declared.Wanted.{Wanted}
+use Rattle.session_step.specs.declared.Wanted.the-variants as Wanted
 use Rattle.session_answer.specs.declared.AfterCall.{AfterCall}
 use Rattle.session_begin.specs.Begin.{get-register-u32, get-register-f32, write-register-u32, write-register-f32, request-fresh-state, store-parameters, ensure-control-mode}
 

@@ -2,4 +2,3 @@ pub mod Bus
 pub mod Error
 pub mod Model
 pub mod Name
-pub mod Time

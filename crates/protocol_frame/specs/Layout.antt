@@ -1,6 +1,7 @@
 -- How numbers lie in a frame's data: one number of 64 bits, of which d0 is the highest byte. Definitions only.
 use Prim.Native.Nat.{ℕ, zero, suc, _+_, _-_, _*_, _/_, _%_, _^_}
 use mathlib.Core.List.{List, [], _∷_}
+use lib.ListN.{getD}
 
 -- so many bits, which hold a number's lowest ones
 pub record Field : Type 0 where
@@ -47,3 +48,7 @@ data-bytes n =
     ∷ data-byte n 6
     ∷ data-byte n 7
     ∷ []
+
+-- d0 to d7 of a received frame's bytes
+abbrev pub d : List ℕ → ℕ → ℕ
+d bytes k = getD bytes k 0

@@ -2,7 +2,6 @@
 // is one number of 64 bits, of which d0 is the highest byte.
 ghost use mathlib.Core.Path.{_≡_};
 ghost use Prim.Native.Nat.{_%_};
-ghost use Rattle.protocol_frame.specs.Codes.{full, bits-in};
 ghost use Rattle.protocol_frame.specs.Layout.{packed, little-endian, data-bytes};
 ghost use Rattle.protocol_frame.specs.Command as Spec;
 use motor_core::error::MOTOR_ID;
@@ -11,22 +10,6 @@ use motor_core::error::MOTOR_ID;
 pub enum Command {
     Frame(u32, u64),
     Refused(u8),
-}
-
-// The widths of codes, in bits.
-pub enum Width {
-    Twelve,
-    Sixteen,
-}
-
-// The largest code of a width, as a float.
-pub fn full_scale(width: Width) -> f32
-    ensures { λ r. ⌜ r ≡ full (bits-in width) ⌝ }
-{
-    match width {
-        Width::Twelve => 4095.0,
-        Width::Sixteen => 65535.0,
-    }
 }
 
 // The four bytes of a number, lowest first.

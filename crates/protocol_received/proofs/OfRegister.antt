@@ -4,7 +4,8 @@ use mathlib.Core.Path.{_≡_, refl}
 use mathlib.Core.List.{List}
 use Rattle.motor_core.specs.declared.model.PvTLimits.{PvTLimits}
 use Rattle.protocol_received.specs.OfRegister.{OfRegister}
-use Rattle.protocol_received.specs.Received.{d, class-of, by-class, received}
+use Rattle.protocol_frame.specs.Layout.{d}
+use Rattle.protocol_received.specs.Received.{class-of, by-class, received}
 use Rattle.protocol_received.specs.declared.FrameClass.{FrameClass}
 use Rattle.protocol_received.specs.declared.FrameClass.the-variants as Class
 use Rattle.protocol_received.proofs.Classes.{reply-known, ack-known}

@@ -12,7 +12,9 @@ use Rattle.registers.specs.declared.RegisterDataType.{RegisterDataType}
 use Rattle.registers.specs.declared.RegisterInfo.{RegisterInfo}
 use Rattle.registers.specs.declared.RegisterInfo.the-variants.{Unknown, Known}
 use Rattle.registers.proofs.Codes.{info-known}
-use Rattle.protocol_received.specs.Received.{d, class-of, typed-value, register-value, sorted-as, sorted, feedback-of, by-class, received}
+use Rattle.protocol_frame.specs.Layout.{d}
+use Rattle.protocol_feedback.specs.Feedback.{feedback-of}
+use Rattle.protocol_received.specs.Received.{class-of, typed-value, register-value, sorted-as, sorted, by-class, received}
 use Rattle.protocol_received.specs.declared.FrameClass.{FrameClass}
 use Rattle.protocol_received.specs.declared.FrameClass.the-variants as Class
 use Rattle.protocol_received.specs.declared.Received.{Received}

@@ -16,8 +16,8 @@ use Rattle.motor_core.specs.declared.model.PvTLimits.{PvTLimits}
 use Rattle.motor_core.specs.declared.model.LimitCheck.the-variants.{Accepted}
 use Rattle.motor_core.proofs.Limits.{accepted-limits}
 use Rattle.float.specs.Arithmetic.{float}
-use Rattle.protocol_frame.specs.Codes.{float-to-uint}
-use Rattle.protocol_frame.proofs.Range.{range, ofInt-is}
+use Rattle.protocol_codes.specs.Codes.{float-to-uint}
+use Rattle.protocol_codes.proofs.Range.{range, ofInt-is}
 use Rattle.protocol_setpoint.specs.Setpoint.{scaled}
 
 -- ---- MIT

@@ -8,7 +8,7 @@ use Rattle.motor_core.specs.declared.model.PvTLimits.{PvTLimits}
 use Rattle.motor_core.specs.declared.model.LimitCheck.{LimitCheck}
 use Rattle.motor_core.specs.declared.model.LimitCheck.the-variants.{Accepted, Refused as BadLimits}
 use Rattle.float.specs.Arithmetic.{float, _⊗_}
-use Rattle.protocol_frame.specs.Codes.{float-to-uint}
+use Rattle.protocol_codes.specs.Codes.{float-to-uint}
 use Rattle.protocol_frame.specs.Layout.{field, packed, packed-onto, little-endian, bytes}
 use Rattle.protocol_frame.specs.Command.{frame-for}
 use Rattle.protocol_frame.specs.declared.Command.{Command}
@@ -16,17 +16,20 @@ use Rattle.protocol_frame.specs.declared.Command.the-variants.{Refused}
 
 -- ---- the eight data bytes
 
--- 'The command bytes', MIT: five codes from the high bit down, 16 bits of position and 12 each of velocity, kp, kd and torque; kp goes from 0 to 500 and kd from 0 to 5
+-- 'The command bytes', MIT: five codes from the high bit down, 16 bits of position and 12 each of velocity, kp, kd and torque
+abbrev pub mit-fields : ℕ → ℕ → ℕ → ℕ → ℕ → ℕ
+mit-fields pos vel kp kd torq = packed (field 16 pos ∷ field 12 vel ∷ field 12 kp ∷ field 12 kd ∷ field 12 torq ∷ [])
+
+-- kp goes from 0 to 500 and kd from 0 to 5
 unfoldable pub mit-data : PvTLimits → Float → Float → Float → Float → Float → ℕ
 unfolding packed-onto
 mit-data l pos vel kp kd torq =
-    packed
-    (field 16 (float-to-uint 16 pos (l .«p_min») (l .«p_max»))
-    ∷ field 12 (float-to-uint 12 vel (l .«v_min») (l .«v_max»))
-    ∷ field 12 (float-to-uint 12 kp (float 0) (float 500))
-    ∷ field 12 (float-to-uint 12 kd (float 0) (float 5))
-    ∷ field 12 (float-to-uint 12 torq (l .«t_min») (l .«t_max»))
-    ∷ [])
+    mit-fields
+    (float-to-uint 16 pos (l .«p_min») (l .«p_max»))
+    (float-to-uint 12 vel (l .«v_min») (l .«v_max»))
+    (float-to-uint 12 kp (float 0) (float 500))
+    (float-to-uint 12 kd (float 0) (float 5))
+    (float-to-uint 12 torq (l .«t_min») (l .«t_max»))
 
 -- position-velocity and velocity: a float that travels unchanged is its 32 bits, lowest byte first
 unfoldable pub pos-vel-data : ℕ → ℕ → ℕ

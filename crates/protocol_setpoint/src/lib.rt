@@ -2,13 +2,14 @@
 // or a refusal.
 ghost use mathlib.Core.Path.{_≡_};
 ghost use Prim.Native.Nat.{_+_, _*_, _/_, _%_};
-ghost use Rattle.protocol_frame.specs.Codes.{float-to-uint, bits-in};
+ghost use Rattle.protocol_codes.specs.Codes.{bits-in, float-to-uint};
 ghost use Rattle.protocol_setpoint.specs.Setpoint as Spec;
 use float::F32Bits;
 use motor_core::model::LimitCheck;
 use motor_core::model::PvTLimits;
+use protocol_codes::Width;
+use protocol_codes::full_scale;
 use protocol_frame::Command;
-use protocol_frame::Width;
 
 const KP_MAX: f32 = 500.0;
 
@@ -20,7 +21,16 @@ fn float_to_uint(x: f32, x_min: f32, x_max: f32, width: Width) -> u32
 {
     let span = x_max - x_min;
     let clipped = float::clamp(x, x_min, x_max);
-    float::as_u32((clipped - x_min) * protocol_frame::full_scale(width) / span)
+    float::as_u32((clipped - x_min) * full_scale(width) / span)
+}
+
+// The five codes of an MIT frame, each cut to its width.
+fn mit_fields(pos: u32, vel: u32, kp: u32, kd: u32, torq: u32) -> u64
+    ensures { λ r. ⌜ r ≡ Spec.mit-fields pos vel kp kd torq ⌝ }
+{
+    let high = ((pos % 0x1_0000) as u64) * 0x1000 + ((vel % 0x1000) as u64);
+    let gains = ((kp % 0x1000) as u64) * 0x1000 + ((kd % 0x1000) as u64);
+    (high * 0x100_0000 + gains) * 0x1000 + ((torq % 0x1000) as u64)
 }
 
 // Any six limits: a session's and those of `mit_cmd` come from `from_maxima`, and the definition holds
@@ -35,19 +45,18 @@ pub fn encode_mit_cmd(
 ) -> u64
     ensures { λ r. ⌜ r ≡ Spec.mit-data limits «target_position» «target_velocity» stiffness damping «feedforward_torque» ⌝ }
 {
-    let pos = float_to_uint(target_position, limits.p_min, limits.p_max, Width::Sixteen) % 0x1_0000;
-    let vel = float_to_uint(target_velocity, limits.v_min, limits.v_max, Width::Twelve) % 0x1000;
-    let kp = float_to_uint(stiffness, 0.0, KP_MAX, Width::Twelve) % 0x1000;
-    let kd = float_to_uint(damping, 0.0, KD_MAX, Width::Twelve) % 0x1000;
-    let torq = float_to_uint(
-        feedforward_torque,
-        limits.t_min,
-        limits.t_max,
-        Width::Twelve,
+    mit_fields(
+        float_to_uint(target_position, limits.p_min, limits.p_max, Width::Sixteen),
+        float_to_uint(target_velocity, limits.v_min, limits.v_max, Width::Twelve),
+        float_to_uint(stiffness, 0.0, KP_MAX, Width::Twelve),
+        float_to_uint(damping, 0.0, KD_MAX, Width::Twelve),
+        float_to_uint(
+            feedforward_torque,
+            limits.t_min,
+            limits.t_max,
+            Width::Twelve,
+        ),
     )
-        % 0x1000;
-    let high = (pos as u64) * 0x1000 + (vel as u64);
-    ((high * 0x1000 + (kp as u64)) * 0x1000 + (kd as u64)) * 0x1000 + (torq as u64)
 }
 
 pub fn encode_pos_vel_cmd(target_position: F32Bits, velocity_limit: F32Bits) -> u64

@@ -2,8 +2,8 @@
 use Prim.Native.Nat.{ℕ}
 use mathlib.Core.Bool.{cond}
 use Rattle.motor_core.specs.Error as Error
-use Rattle.motor_core.specs.Time.{timeout-accepted}
-use Rattle.motor_core.specs.declared.time.Duration.{Duration}
+use Rattle.time.specs.Time.{timeout-accepted}
+use Rattle.time.specs.declared.Duration.{Duration}
 use Rattle.registers.specs.Registers.{known, info-of}
 use Rattle.registers.specs.Value.{of-type}
 use Rattle.registers.specs.declared.RegisterAccess.{RegisterAccess}

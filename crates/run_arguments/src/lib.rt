@@ -7,8 +7,6 @@ use motor_core::error::READ_ONLY;
 use motor_core::error::REGISTER;
 use motor_core::error::TIMEOUT;
 use motor_core::error::VALUE_TYPE;
-use motor_core::time::Duration;
-use motor_core::time::accepts_timeout;
 use protocol_hold::ModeCheck;
 use protocol_hold::control_mode;
 use registers::RegisterAccess;
@@ -23,6 +21,8 @@ use run_machine::Machine;
 use run_wait::ask::Ask;
 use run_write::first_try;
 use switch_stage::Switch;
+use time::Duration;
+use time::accepts_timeout;
 
 // A run's machine at its beginning, or why its arguments are refused.
 pub enum StartCheck {
@@ -47,8 +47,8 @@ pub fn write_start(rid: u8, value: RegisterValue) -> StartCheck
 {
     let info = register_info(rid);
     match info {
-        RegisterInfo::Unknown => StartCheck::Refused(REGISTER),
-        RegisterInfo::Known(access, data_type) => write_known(access, data_type, rid, value),
+        RegisterInfo::Unknown => return StartCheck::Refused(REGISTER),
+        RegisterInfo::Known(access, data_type) => return write_known(access, data_type, rid, value),
     }
 }
 
@@ -61,12 +61,12 @@ fn write_known(
     ensures { λ r. ⌜ r ≡ Spec.write-known access «data_type» rid value ⌝ }
 {
     match access {
-        RegisterAccess::ReadOnly => StartCheck::Refused(READ_ONLY),
+        RegisterAccess::ReadOnly => return StartCheck::Refused(READ_ONLY),
         RegisterAccess::ReadWrite => {
             if !is_of_type(value, data_type) {
                 return StartCheck::Refused(VALUE_TYPE);
             }
-            StartCheck::Accepted(Machine::WriteRegister(rid, value, first_try()))
+            return StartCheck::Accepted(Machine::WriteRegister(rid, value, first_try()));
         }
     }
 }
@@ -91,12 +91,16 @@ pub fn mode_start(mode: u32, timeout: Duration) -> StartCheck
 {
     let check = control_mode(mode);
     match check {
-        ModeCheck::Unknown => StartCheck::Refused(MODE),
+        ModeCheck::Unknown => return StartCheck::Refused(MODE),
         ModeCheck::Known(known) => {
             if !accepts_timeout(timeout) {
                 return StartCheck::Refused(TIMEOUT);
             }
-            StartCheck::Accepted(Machine::EnsureControlMode(known, timeout, Switch::Starting))
+            return StartCheck::Accepted(Machine::EnsureControlMode(
+                known,
+                timeout,
+                Switch::Starting,
+            ));
         }
     }
 }

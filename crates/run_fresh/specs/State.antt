@@ -1,6 +1,6 @@
 -- The fresh-state request: document 01's 'The runs'. Definitions only.
-use Rattle.motor_core.specs.declared.time.Instant.{Instant}
-use Rattle.motor_core.specs.declared.time.Duration.{Duration}
+use Rattle.time.specs.declared.Instant.{Instant}
+use Rattle.time.specs.declared.Duration.{Duration}
 use Rattle.state_feedback.specs.declared.Latest.{Latest}
 use Rattle.state_feedback.specs.declared.Latest.the-variants.{None, Snapshot}
 use Rattle.run_want.specs.declared.Answer.{Answer}

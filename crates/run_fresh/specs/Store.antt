@@ -1,8 +1,8 @@
 -- Storing: document 01's 'The runs', its last rule. Definitions only.
 use mathlib.Core.Bool.{cond}
 use lib.Dec.{eqb}
-use Rattle.motor_core.specs.Time.{millis}
-use Rattle.motor_core.specs.declared.time.Duration.{Duration}
+use Rattle.time.specs.Time.{millis}
+use Rattle.time.specs.declared.Duration.{Duration}
 use Rattle.state_feedback.specs.declared.Latest.{Latest}
 use Rattle.state_feedback.specs.declared.MotorFeedbackState.{MotorFeedbackState}
 use Rattle.run_want.specs.Want.{send-outcome}

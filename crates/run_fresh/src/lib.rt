@@ -4,8 +4,6 @@ pub mod store;
 
 ghost use mathlib.Core.Path.{_≡_};
 ghost use Rattle.run_fresh.specs.State as Spec;
-use motor_core::time::Duration;
-use motor_core::time::Instant;
 use run_wait::Wait;
 use run_wait::ask::Ask;
 use run_wait::ask::Asked;
@@ -18,6 +16,8 @@ use run_want::Want;
 use run_want::message::Message;
 use state_feedback::Latest;
 use state_feedback::MotorFeedbackState;
+use time::Duration;
+use time::Instant;
 
 pub enum StateNext {
     Goes(Ask),

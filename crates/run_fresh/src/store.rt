@@ -4,7 +4,6 @@ ghost use Rattle.run_fresh.specs.Store as Spec;
 use crate::StateNext;
 use crate::state_step;
 use crate::state_want;
-use motor_core::time::Duration;
 use run_wait::ask::Ask;
 use run_want::Answer;
 use run_want::Failure;
@@ -14,6 +13,7 @@ use run_want::message::Message;
 use run_want::send_outcome;
 use state_feedback::Latest;
 use state_feedback::MotorFeedbackState;
+use time::Duration;
 
 // In nanoseconds.
 const STORE_PARAMS_STATE_TIMEOUT: Duration = Duration(50_000_000);

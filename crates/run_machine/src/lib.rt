@@ -2,7 +2,6 @@
 // with.
 ghost use mathlib.Core.Path.{_≡_};
 ghost use Rattle.run_machine.specs.Machine as Spec;
-use motor_core::time::Duration;
 use protocol_hold::ControlMode;
 use registers::RegisterDataType;
 use registers::RegisterValue;
@@ -20,6 +19,7 @@ use state_feedback::MotorFeedbackState;
 use switch_stage::Switch;
 use switch_stage::switch_place;
 use switch_stage::switch_want;
+use time::Duration;
 
 // The run's own arguments, then its phase.
 pub enum Machine {

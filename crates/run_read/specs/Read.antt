@@ -1,8 +1,8 @@
 -- The register read: document 01's 'The runs'. Definitions only.
 use Prim.Native.Nat.{ℕ}
 use mathlib.Core.Bool.{cond}
-use Rattle.motor_core.specs.declared.time.Instant.{Instant}
-use Rattle.motor_core.specs.declared.time.Duration.{Duration}
+use Rattle.time.specs.declared.Instant.{Instant}
+use Rattle.time.specs.declared.Duration.{Duration}
 use Rattle.registers.specs.Value.{of-type}
 use Rattle.registers.specs.declared.RegisterDataType.{RegisterDataType}
 use Rattle.registers.specs.declared.RegisterValue.{RegisterValue}

@@ -2,8 +2,6 @@
 // asks, and waits for a reply that is no older than its opening.
 ghost use mathlib.Core.Path.{_≡_};
 ghost use Rattle.run_read.specs.Read as Spec;
-use motor_core::time::Duration;
-use motor_core::time::Instant;
 use registers::RegisterDataType;
 use registers::RegisterValue;
 use registers::is_of_type;
@@ -18,6 +16,8 @@ use run_want::Failure;
 use run_want::Want;
 use run_want::message::Message;
 use state_cache::Entry;
+use time::Duration;
+use time::Instant;
 
 pub enum ReadNext {
     Goes(Ask),

@@ -1,6 +1,6 @@
 -- The step of each run's machine, with the latest record and the entry at the machine's place. Definitions only.
 use Prim.Native.Nat.{ℕ}
-use Rattle.motor_core.specs.declared.time.Duration.{Duration}
+use Rattle.time.specs.declared.Duration.{Duration}
 use Rattle.registers.specs.declared.RegisterDataType.{RegisterDataType}
 use Rattle.registers.specs.declared.RegisterValue.{RegisterValue}
 use Rattle.state_feedback.specs.declared.Latest.{Latest}

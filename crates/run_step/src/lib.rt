@@ -2,7 +2,6 @@
 // the latest record and the one entry that the machine looks at.
 ghost use mathlib.Core.Path.{_≡_};
 ghost use Rattle.run_step.specs.Step as Spec;
-use motor_core::time::Duration;
 use protocol_hold::ControlMode;
 use registers::RegisterDataType;
 use registers::RegisterValue;
@@ -21,6 +20,7 @@ use state_cache::Entry;
 use state_feedback::Latest;
 use switch_stage::SwitchNext;
 use switch_step::switch_step;
+use time::Duration;
 
 pub enum Next {
     Goes(Machine),
@@ -31,9 +31,14 @@ fn after_read(data_type: RegisterDataType, rid: u8, timeout: Duration, next: Rea
     ensures { λ r. ⌜ r ≡ Spec.after-read «data_type» rid timeout next ⌝ }
 {
     match next {
-        ReadNext::Goes(ask) => Next::Goes(Machine::GetRegister(data_type, rid, timeout, ask)),
-        ReadNext::Got(value) => Next::Ends(RunResult::Value(value)),
-        ReadNext::Failed(failure) => Next::Ends(RunResult::Failed(failure)),
+        ReadNext::Goes(ask) => return Next::Goes(Machine::GetRegister(
+            data_type,
+            rid,
+            timeout,
+            ask,
+        )),
+        ReadNext::Got(value) => return Next::Ends(RunResult::Value(value)),
+        ReadNext::Failed(failure) => return Next::Ends(RunResult::Failed(failure)),
     }
 }
 
@@ -41,9 +46,9 @@ fn after_write(rid: u8, value: RegisterValue, next: WriteNext) -> Next
     ensures { λ r. ⌜ r ≡ Spec.after-write rid value next ⌝ }
 {
     match next {
-        WriteNext::Goes(write) => Next::Goes(Machine::WriteRegister(rid, value, write)),
-        WriteNext::Written => Next::Ends(RunResult::Done),
-        WriteNext::Failed(failure) => Next::Ends(RunResult::Failed(failure)),
+        WriteNext::Goes(write) => return Next::Goes(Machine::WriteRegister(rid, value, write)),
+        WriteNext::Written => return Next::Ends(RunResult::Done),
+        WriteNext::Failed(failure) => return Next::Ends(RunResult::Failed(failure)),
     }
 }
 
@@ -51,10 +56,10 @@ fn after_state(timeout: Duration, next: StateNext) -> Next
     ensures { λ r. ⌜ r ≡ Spec.after-state timeout next ⌝ }
 {
     match next {
-        StateNext::Goes(ask) => Next::Goes(Machine::RequestFreshState(timeout, ask)),
-        StateNext::Got(state) => Next::Ends(RunResult::State(state)),
-        StateNext::NoState => Next::Ends(RunResult::NoState),
-        StateNext::Failed(failure) => Next::Ends(RunResult::Failed(failure)),
+        StateNext::Goes(ask) => return Next::Goes(Machine::RequestFreshState(timeout, ask)),
+        StateNext::Got(state) => return Next::Ends(RunResult::State(state)),
+        StateNext::NoState => return Next::Ends(RunResult::NoState),
+        StateNext::Failed(failure) => return Next::Ends(RunResult::Failed(failure)),
     }
 }
 
@@ -62,9 +67,9 @@ fn after_store(next: StoreNext) -> Next
     ensures { λ r. ⌜ r ≡ Spec.after-store next ⌝ }
 {
     match next {
-        StoreNext::Goes(store) => Next::Goes(Machine::StoreParameters(store)),
-        StoreNext::Done => Next::Ends(RunResult::Done),
-        StoreNext::Failed(failure) => Next::Ends(RunResult::Failed(failure)),
+        StoreNext::Goes(store) => return Next::Goes(Machine::StoreParameters(store)),
+        StoreNext::Done => return Next::Ends(RunResult::Done),
+        StoreNext::Failed(failure) => return Next::Ends(RunResult::Failed(failure)),
     }
 }
 
@@ -72,9 +77,13 @@ fn after_switch(mode: ControlMode, timeout: Duration, next: SwitchNext) -> Next
     ensures { λ r. ⌜ r ≡ Spec.after-switch mode timeout next ⌝ }
 {
     match next {
-        SwitchNext::Goes(switch) => Next::Goes(Machine::EnsureControlMode(mode, timeout, switch)),
-        SwitchNext::Done => Next::Ends(RunResult::Done),
-        SwitchNext::Failed(failure) => Next::Ends(RunResult::Failed(failure)),
+        SwitchNext::Goes(switch) => return Next::Goes(Machine::EnsureControlMode(
+            mode,
+            timeout,
+            switch,
+        )),
+        SwitchNext::Done => return Next::Ends(RunResult::Done),
+        SwitchNext::Failed(failure) => return Next::Ends(RunResult::Failed(failure)),
     }
 }
 
@@ -83,20 +92,20 @@ pub fn machine_step(latest: Latest, entry: Entry, machine: Machine, answer: Answ
     ensures { λ r. ⌜ r ≡ Spec.machine-step latest entry machine answer ⌝ }
 {
     match machine {
-        Machine::GetRegister(data_type, rid, timeout, ask) => after_read(
+        Machine::GetRegister(data_type, rid, timeout, ask) => return after_read(
             data_type,
             rid,
             timeout,
             get_step(data_type, timeout, entry, ask, answer),
         ),
         Machine::WriteRegister(rid, value, write) => {
-            after_write(rid, value, write_step(value, entry, write, answer))
+            return after_write(rid, value, write_step(value, entry, write, answer));
         }
         Machine::RequestFreshState(timeout, ask) => {
-            after_state(timeout, state_step(timeout, latest, ask, answer))
+            return after_state(timeout, state_step(timeout, latest, ask, answer));
         }
-        Machine::StoreParameters(store) => after_store(store_step(latest, store, answer)),
-        Machine::EnsureControlMode(mode, timeout, switch) => after_switch(
+        Machine::StoreParameters(store) => return after_store(store_step(latest, store, answer)),
+        Machine::EnsureControlMode(mode, timeout, switch) => return after_switch(
             mode,
             timeout,
             switch_step(mode, timeout, entry, switch, answer),

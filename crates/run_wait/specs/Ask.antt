@@ -1,6 +1,6 @@
 -- Asking: document 01's 'The runs', reads and fresh-state requests open before their send. Definitions only.
-use Rattle.motor_core.specs.declared.time.Instant.{Instant}
-use Rattle.motor_core.specs.declared.time.Duration.{Duration}
+use Rattle.time.specs.declared.Instant.{Instant}
+use Rattle.time.specs.declared.Duration.{Duration}
 use Rattle.run_want.specs.Want.{reading-of, send-outcome}
 use Rattle.run_want.specs.declared.Answer.{Answer}
 use Rattle.run_want.specs.declared.SendOutcome.{SendOutcome}

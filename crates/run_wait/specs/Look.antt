@@ -1,7 +1,7 @@
 -- Looks: document 01's 'The runs', what is stamped no earlier than the opening counts. Definitions only.
 use mathlib.Core.Bool.{cond}
 use lib.Dec.{leb}
-use Rattle.motor_core.specs.declared.time.Instant.{Instant}
+use Rattle.time.specs.declared.Instant.{Instant}
 use Rattle.state_feedback.specs.declared.Latest.{Latest}
 use Rattle.state_feedback.specs.declared.Latest.the-variants.{None, Snapshot}
 use Rattle.state_cache.specs.declared.Entry.{Entry}

@@ -2,9 +2,9 @@
 use Prim.Native.Nat.{_+_}
 use mathlib.Core.Bool.{Bool, cond}
 use lib.Dec.{leb}
-use Rattle.motor_core.specs.Time.{millis}
-use Rattle.motor_core.specs.declared.time.Instant.{Instant}
-use Rattle.motor_core.specs.declared.time.Duration.{Duration}
+use Rattle.time.specs.Time.{millis}
+use Rattle.time.specs.declared.Instant.{Instant}
+use Rattle.time.specs.declared.Duration.{Duration}
 use Rattle.run_want.specs.Want.{reading-of}
 use Rattle.run_want.specs.declared.Answer.{Answer}
 use Rattle.run_want.specs.declared.Want.{Want}

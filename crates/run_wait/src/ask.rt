@@ -6,8 +6,6 @@ use crate::Wait;
 use crate::Waited;
 use crate::wait_step;
 use crate::wait_want;
-use motor_core::time::Duration;
-use motor_core::time::Instant;
 use run_want::Answer;
 use run_want::Failure;
 use run_want::SendOutcome;
@@ -15,6 +13,8 @@ use run_want::Want;
 use run_want::message::Message;
 use run_want::reading_of;
 use run_want::send_outcome;
+use time::Duration;
+use time::Instant;
 
 pub enum Ask {
     Opening,

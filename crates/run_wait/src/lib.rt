@@ -5,11 +5,11 @@ pub mod look;
 
 ghost use mathlib.Core.Path.{_≡_};
 ghost use Rattle.run_wait.specs.Wait as Spec;
-use motor_core::time::Duration;
-use motor_core::time::Instant;
 use run_want::Answer;
 use run_want::Want;
 use run_want::reading_of;
+use time::Duration;
+use time::Instant;
 
 // In nanoseconds.
 pub const REGISTER_POLL_INTERVAL: Duration = Duration(2_000_000);

@@ -1,9 +1,9 @@
 // A look: what came no earlier than the opening.
 ghost use mathlib.Core.Path.{_≡_};
 ghost use Rattle.run_wait.specs.Look as Spec;
-use motor_core::time::Instant;
 use state_cache::Entry;
 use state_feedback::Latest;
+use time::Instant;
 
 // The entry if it is fresh.
 pub fn fresh_entry(opening: Instant, entry: Entry) -> Entry

@@ -2,7 +2,7 @@
 use Prim.Native.Nat.{ℕ}
 use mathlib.Core.Bool.{Bool}
 use lib.Dec.{eqb}
-use Rattle.motor_core.specs.declared.time.Instant.{Instant}
+use Rattle.time.specs.declared.Instant.{Instant}
 use Rattle.run_want.specs.declared.Want.{Want}
 use Rattle.run_want.specs.declared.Want.the-variants.{Clock, Send, Sleep}
 use Rattle.run_want.specs.declared.Answer.{Answer}

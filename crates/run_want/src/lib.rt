@@ -5,9 +5,9 @@ pub mod message;
 ghost use mathlib.Core.Path.{_≡_};
 ghost use Rattle.run_want.specs.Want as Spec;
 use message::Message;
-use motor_core::time::Duration;
-use motor_core::time::Instant;
 use registers::RegisterValue;
+use time::Duration;
+use time::Instant;
 
 pub enum Want {
     Clock,

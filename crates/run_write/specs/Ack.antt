@@ -1,8 +1,8 @@
 -- The ack wait: document 01's 'The runs', its opening comes after the send. Definitions only.
 use mathlib.Core.Bool.{cond}
-use Rattle.motor_core.specs.Time.{millis}
-use Rattle.motor_core.specs.declared.time.Instant.{Instant}
-use Rattle.motor_core.specs.declared.time.Duration.{Duration}
+use Rattle.time.specs.Time.{millis}
+use Rattle.time.specs.declared.Instant.{Instant}
+use Rattle.time.specs.declared.Duration.{Duration}
 use Rattle.registers.specs.Value.{same-value}
 use Rattle.registers.specs.declared.RegisterValue.{RegisterValue}
 use Rattle.state_cache.specs.declared.Entry.{Entry}

@@ -1,7 +1,7 @@
 -- The confirmed write: document 01's 'The runs', three tries. Definitions only.
 use Prim.Native.Nat.{ℕ, zero, suc}
-use Rattle.motor_core.specs.Time.{millis}
-use Rattle.motor_core.specs.declared.time.Duration.{Duration}
+use Rattle.time.specs.Time.{millis}
+use Rattle.time.specs.declared.Duration.{Duration}
 use Rattle.registers.specs.Value.{bits-of}
 use Rattle.registers.specs.declared.RegisterValue.{RegisterValue}
 use Rattle.state_cache.specs.declared.Entry.{Entry}

@@ -1,8 +1,6 @@
 // The ack wait: `wait_for_write_ack`. It opens after the send.
 ghost use mathlib.Core.Path.{_≡_};
 ghost use Rattle.run_write.specs.Ack as Spec;
-use motor_core::time::Duration;
-use motor_core::time::Instant;
 use registers::RegisterValue;
 use registers::register_value_matches;
 use run_wait::Wait;
@@ -15,6 +13,8 @@ use run_want::Failure;
 use run_want::Want;
 use run_want::reading_of;
 use state_cache::Entry;
+use time::Duration;
+use time::Instant;
 
 // In nanoseconds.
 const WRITE_REGISTER_ACK_TIMEOUT: Duration = Duration(50_000_000);

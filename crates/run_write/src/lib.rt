@@ -8,7 +8,6 @@ use ack::AckNext;
 use ack::AckWait;
 use ack::ack_step;
 use ack::ack_want;
-use motor_core::time::Duration;
 use registers::RegisterValue;
 use registers::value_bits;
 use run_want::Answer;
@@ -18,6 +17,7 @@ use run_want::Want;
 use run_want::message::Message;
 use run_want::send_outcome;
 use state_cache::Entry;
+use time::Duration;
 
 const WRITE_REGISTER_ACK_ATTEMPTS: u8 = 3;
 

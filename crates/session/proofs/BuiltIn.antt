@@ -10,7 +10,8 @@ use Rattle.motor_core.specs.Error as Error
 use Rattle.motor_core.specs.Model.{limit-accepted, from-maxima, limits-of}
 use Rattle.motor_core.specs.Name.{spelling}
 use Rattle.motor_core.specs.declared.model.LimitCheck.the-variants as Check
-use Rattle.model_list.specs.Models.{damiao-models, limits-by-name}
+use Rattle.model_list.specs.Models.{limits-by-name}
+use Rattle.model_damiao.specs.Damiao.{damiao-models}
 use Rattle.model_list.specs.declared.Maxima.{Maxima}
 use Rattle.model_list.specs.declared.MotorModelSpec.{MotorModelSpec}
 use Rattle.model_list.specs.declared.ModelLimits.{ModelLimits}

@@ -3,9 +3,10 @@ use Prim.Native.Nat.{ℕ}
 use mathlib.Core.List.{List}
 use lib.ListN.{replicate}
 use Rattle.motor_core.specs.declared.model.PvTLimits.{PvTLimits}
-use Rattle.motor_core.specs.declared.time.Instant.{Instant}
+use Rattle.time.specs.declared.Instant.{Instant}
 use Rattle.state_feedback.specs.Feedback.{no-feedback, patch-latest}
 use Rattle.state_feedback.specs.declared.FeedbackCache.{FeedbackCache}
+use Rattle.state_feedback.specs.declared.Patched.{Patched}
 use Rattle.state_cache.specs.Cache.{empty}
 use Rattle.state_cache.specs.declared.Slot.{Slot}
 use Rattle.session.specs.declared.Head.{Head}
@@ -18,9 +19,12 @@ abbrev pub closed : Run
 closed = record { phase = Closed }
 
 -- 'The runs', a fresh session: caches and record empty, number and last reading 0, no run
+abbrev pub fresh-head : ℕ → ℕ → PvTLimits → Head
+fresh-head motor-id feedback-id limits = record { «motor_id» = motor-id; «feedback_id» = feedback-id; limits = limits; feedback = no-feedback; last = record { 0 = 0 } }
+
 unfoldable pub fresh : ℕ → ℕ → PvTLimits → Session
 fresh motor-id feedback-id limits = record {
-  head = record { «motor_id» = motor-id; «feedback_id» = feedback-id; limits = limits; feedback = no-feedback; last = record { 0 = 0 } };
+  head = fresh-head motor-id feedback-id limits;
   replies = replicate 82 empty;
   acks = replicate 82 empty;
   run = closed;
@@ -49,7 +53,8 @@ with-run s run = record { head = s .head; replies = s .replies; acks = s .acks; 
 -- ---- a patch
 
 -- 'The feedback on the screen': nothing but the latest record changes
+abbrev pub with-patch : Session → Patched → AfterPatch
+with-patch s p = record { session = with-head s (with-feedback (s .head) (p .cache)); patched = p .patched }
+
 abbrev pub patch : Session → ℕ → ℕ → ℕ → AfterPatch
-patch s status mos rotor =
-    let p = patch-latest (s .head .feedback) status mos rotor in
-    record { session = with-head s (with-feedback (s .head) (p .cache)); patched = p .patched }
+patch s status mos rotor = with-patch s (patch-latest (s .head .feedback) status mos rotor)

@@ -30,10 +30,13 @@ abbrev pub refused : ℕ → Started
 refused number = record { session = no-session; outcome = StartOutcome.Refused number }
 
 -- 'Turned back', start: the limits are tested first, 1, then the motor id, 2
+abbrev pub with-limits : ℕ → ℕ → PvTLimits → Started
+with-limits motor-id feedback-id limits =
+    cond (motor-id-accepted motor-id) (record { session = fresh motor-id feedback-id limits; outcome = StartOutcome.Started }) (refused Error.motor-id)
+
 abbrev pub by-limits : LimitCheck → ℕ → ℕ → Started
 by-limits (Check.Refused number) motor-id feedback-id = refused number
-by-limits (Check.Accepted limits) motor-id feedback-id =
-    cond (motor-id-accepted motor-id) (record { session = fresh motor-id feedback-id limits; outcome = StartOutcome.Started }) (refused Error.motor-id)
+by-limits (Check.Accepted limits) motor-id feedback-id = with-limits motor-id feedback-id limits
 
 unfoldable pub from-limits : ℕ → ℕ → Maxima → Started
 from-limits motor-id feedback-id m = by-limits (limits-of (m .«p_max») (m .«v_max») (m .«t_max»)) motor-id feedback-id

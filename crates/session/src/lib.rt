@@ -3,15 +3,15 @@
 pub mod start;
 
 ghost use mathlib.Core.Path.{_≡_};
-ghost use Rattle.protocol_received.specs.Received.{accepted};
+ghost use Rattle.protocol_address.specs.Address.{accepted};
 ghost use Rattle.session.specs.Session as Spec;
 use motor_core::bus::CanFrame;
 use motor_core::model::PvTLimits;
-use motor_core::time::Instant;
 use run_machine::Machine;
 use state_cache::Slot;
 use state_feedback::FeedbackCache;
 use state_feedback::Latest;
+use time::Instant;
 
 // The ids and limits of the motor, its latest record, and the last reading: the small part that a frame
 // or an answer works on.
@@ -46,11 +46,19 @@ pub struct AfterPatch {
     pub patched: bool,
 }
 
+fn closed_run() -> Run
+    ensures { λ r. ⌜ r ≡ Spec.closed ⌝ }
+{
+    Run {
+        phase: Phase::Closed,
+    }
+}
+
 // Whether a frame may be this motor's. Taking a frame does not ask.
 pub fn accepts_frame(head: Head, frame: CanFrame) -> bool
     ensures { λ r. ⌜ r ≡ accepted (head .«motor_id») (head .«feedback_id») frame ⌝ }
 {
-    protocol_received::accepts_frame(frame, head.motor_id, head.feedback_id)
+    protocol_address::accepts_frame(frame, head.motor_id, head.feedback_id)
 }
 
 // The latest record, if there is one.
@@ -62,13 +70,11 @@ pub fn latest_state_snapshot(head: Head) -> Latest
 }
 
 // Sets status and temperatures of the latest record, and answers whether there is one.
-pub fn patch_latest(session: Session, status: u8, t_mos: u8, t_rotor: u8) -> AfterPatch
+pub fn patch_latest(mut session: Session, status: u8, t_mos: u8, t_rotor: u8) -> AfterPatch
     ensures { λ r. ⌜ r ≡ Spec.patch session status «t_mos» «t_rotor» ⌝ }
 {
-    let mut session = session;
     let mut head = session.head;
-    let feedback = head.feedback;
-    let patch = state_feedback::patch_latest(feedback, status, t_mos, t_rotor);
+    let patch = state_feedback::patch_latest(head.feedback, status, t_mos, t_rotor);
     let cache = patch.cache;
     head.feedback = cache;
     session.head = head;

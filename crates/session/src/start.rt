@@ -1,12 +1,13 @@
 // A session's start, from three limits or from a model's name.
 ghost use mathlib.Core.Path.{_≡_};
 ghost use Rattle.model_list.specs.Counted.{models-of};
-ghost use Rattle.session.specs.Session.{fresh};
+ghost use Rattle.session.specs.Session.{fresh-head, fresh};
+ghost use Rattle.state_cache.specs.Cache.{empty};
+ghost use lib.ListN.{replicate};
 ghost use Rattle.session.specs.Start as Spec;
 use crate::Head;
-use crate::Phase;
-use crate::Run;
 use crate::Session;
+use crate::closed_run;
 use model_list::Maxima;
 use model_list::ModelLimits;
 use model_list::ModelList;
@@ -16,11 +17,11 @@ use motor_core::error::MOTOR_ID;
 use motor_core::model::LimitCheck;
 use motor_core::model::PvTLimits;
 use motor_core::model::from_maxima;
-use motor_core::time::Instant;
 use state_cache::Entry;
 use state_cache::Slot;
 use state_feedback::FeedbackCache;
 use state_feedback::Latest;
+use time::Instant;
 
 pub enum StartOutcome {
     Started,
@@ -33,30 +34,39 @@ pub struct Started {
     pub outcome: StartOutcome,
 }
 
-// Empty caches, no record, number 0, last reading 0, no run.
+// No record, number 0, last reading 0.
+fn fresh_head(motor_id: u16, feedback_id: u16, limits: PvTLimits) -> Head
+    ensures { λ r. ⌜ r ≡ fresh-head «motor_id» «feedback_id» limits ⌝ }
+{
+    Head {
+        motor_id,
+        feedback_id,
+        limits,
+        feedback: FeedbackCache {
+            latest: Latest::None,
+            sequence: 0,
+        },
+        last: Instant(0),
+    }
+}
+
+fn empty_slots() -> [Slot; 82]
+    ensures { λ r. ⌜ r ≡ replicate 82 empty ⌝ }
+{
+    [Slot {
+        entry: Entry::Empty,
+    }; 82]
+}
+
+// Empty caches and no run.
 fn fresh(motor_id: u16, feedback_id: u16, limits: PvTLimits) -> Session
     ensures { λ r. ⌜ r ≡ fresh «motor_id» «feedback_id» limits ⌝ }
 {
     Session {
-        head: Head {
-            motor_id,
-            feedback_id,
-            limits,
-            feedback: FeedbackCache {
-                latest: Latest::None,
-                sequence: 0,
-            },
-            last: Instant(0),
-        },
-        replies: [Slot {
-            entry: Entry::Empty,
-        }; 82],
-        acks: [Slot {
-            entry: Entry::Empty,
-        }; 82],
-        run: Run {
-            phase: Phase::Closed,
-        },
+        head: fresh_head(motor_id, feedback_id, limits),
+        replies: empty_slots(),
+        acks: empty_slots(),
+        run: closed_run(),
     }
 }
 
@@ -87,22 +97,25 @@ fn refused(number: u8) -> Started
     }
 }
 
+fn with_limits(motor_id: u16, feedback_id: u16, limits: PvTLimits) -> Started
+    ensures { λ r. ⌜ r ≡ Spec.with-limits «motor_id» «feedback_id» limits ⌝ }
+{
+    if !accepts_motor_id(motor_id) {
+        return refused(MOTOR_ID);
+    }
+    Started {
+        session: fresh(motor_id, feedback_id, limits),
+        outcome: StartOutcome::Started,
+    }
+}
+
 // A fresh session with these limits, or the refusal 1 or 2.
 pub fn from_limits(motor_id: u16, feedback_id: u16, maxima: Maxima) -> Started
     ensures { λ r. ⌜ r ≡ Spec.from-limits «motor_id» «feedback_id» maxima ⌝ }
 {
-    let made = from_maxima(maxima.p_max, maxima.v_max, maxima.t_max);
-    match made {
+    match from_maxima(maxima.p_max, maxima.v_max, maxima.t_max) {
         LimitCheck::Refused(number) => refused(number),
-        LimitCheck::Accepted(limits) => {
-            if !accepts_motor_id(motor_id) {
-                return refused(MOTOR_ID);
-            }
-            Started {
-                session: fresh(motor_id, feedback_id, limits),
-                outcome: StartOutcome::Started,
-            }
-        }
+        LimitCheck::Accepted(limits) => with_limits(motor_id, feedback_id, limits),
     }
 }
 
@@ -110,8 +123,7 @@ pub fn from_limits(motor_id: u16, feedback_id: u16, maxima: Maxima) -> Started
 pub fn from_model(motor_id: u16, feedback_id: u16, list: ModelList, name: &[u8]) -> Started
     ensures { λ r. ⌜ r ≡ Spec.from-model «motor_id» «feedback_id» (models-of list) (now (name .entry)) ⌝ }
 {
-    let found = model_limits(list, name);
-    match found {
+    match model_limits(list, name) {
         ModelLimits::Refused(number) => refused(number),
         ModelLimits::Limits(maxima) => from_limits(motor_id, feedback_id, maxima),
     }

@@ -4,8 +4,8 @@ use mathlib.Core.Path.{_≡_, refl, sym, ap, _∙_, subst}
 use mathlib.Core.Bool.{Bool, true, false, cond}
 use native.Mathlib.Nat.{le-refl}
 use Rattle.motor_core.specs.Error as Error
-use Rattle.motor_core.specs.declared.time.Instant.{Instant}
-use Rattle.motor_core.proofs.Readings.{between, in-order}
+use Rattle.time.specs.declared.Instant.{Instant}
+use Rattle.time.proofs.Readings.{between, in-order}
 use Rattle.state_cache.specs.declared.Entry.{Entry}
 use Rattle.run_want.specs.Want.{fits}
 use Rattle.run_want.specs.declared.Answer.{Answer}
@@ -25,10 +25,11 @@ use Rattle.session.specs.declared.Phase.the-variants.{Closed, Open}
 use Rattle.session.specs.declared.Run.{Run}
 use Rattle.session.specs.declared.Session.{Session}
 use Rattle.session_answer.specs.Effects.{Follows, Told-truly, Unchanged}
-use Rattle.session_answer.specs.Answer.{caller-want, answer-accepted, with-reading, stepped, refused, answer-by, phase-place, entry-at, with-step, answer-run}
-use Rattle.session_answer.specs.declared.AnswerStep.{AnswerStep}
-use Rattle.session_answer.specs.declared.Told.{Told}
-use Rattle.session_answer.specs.declared.Told.the-variants.{Refused}
+use Rattle.session_step.specs.Parts.{caller-want, answer-accepted, with-reading, stepped, refused, answer-by}
+use Rattle.session_answer.specs.Answer.{phase-place, entry-at, with-step, answer-run}
+use Rattle.session_step.specs.declared.AnswerStep.{AnswerStep}
+use Rattle.session_step.specs.declared.Told.{Told}
+use Rattle.session_step.specs.declared.Told.the-variants.{Refused}
 use Rattle.session_answer.specs.declared.AfterCall.{AfterCall}
 
 -- an answer changes nothing of the head but the last reading

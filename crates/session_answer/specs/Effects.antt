@@ -7,10 +7,10 @@ use Rattle.session.specs.declared.Head.{Head}
 use Rattle.session.specs.declared.Run.{Run}
 use Rattle.session.specs.declared.Phase.the-variants.{Open}
 use Rattle.session.specs.declared.Session.{Session}
-use Rattle.session_answer.specs.Answer.{caller-want}
-use Rattle.session_answer.specs.declared.Told.{Told}
-use Rattle.session_answer.specs.declared.Told.the-variants.{Want, Result, Refused}
-use Rattle.session_answer.specs.declared.Wanted.{Wanted}
+use Rattle.session_step.specs.Parts.{caller-want}
+use Rattle.session_step.specs.declared.Told.{Told}
+use Rattle.session_step.specs.declared.Told.the-variants.{Want, Result, Refused}
+use Rattle.session_step.specs.declared.Wanted.{Wanted}
 use Rattle.session_answer.specs.declared.AfterCall.{AfterCall}
 
 -- an open run whose machine wants just what was returned

@@ -8,8 +8,8 @@ use Rattle.session.specs.declared.Phase.{Phase}
 use Rattle.session.specs.declared.Phase.the-variants.{Closed, Open}
 use Rattle.session.specs.declared.Session.{Session}
 use Rattle.session_answer.specs.Effects.{Told-truly, Unchanged}
-use Rattle.session_answer.specs.Answer.{caller-want}
-use Rattle.session_answer.specs.declared.Told.the-variants.{Want, Refused}
+use Rattle.session_step.specs.Parts.{caller-want}
+use Rattle.session_step.specs.declared.Told.the-variants.{Want, Refused}
 use Rattle.session_answer.specs.declared.AfterCall.{AfterCall}
 use Rattle.session_answer.proofs.Effects.{untouched}
 use Rattle.session_begin.specs.Begin.{opened, first-want, start-by, with-opened, begin}

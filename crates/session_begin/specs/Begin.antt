@@ -2,7 +2,7 @@
 use Prim.Native.Nat.{ℕ}
 use Rattle.float.specs.declared.F32Bits.{F32Bits}
 use Rattle.motor_core.specs.Error as Error
-use Rattle.motor_core.specs.declared.time.Duration.{Duration}
+use Rattle.time.specs.declared.Duration.{Duration}
 use Rattle.registers.specs.Value.{value-of}
 use Rattle.registers.specs.declared.RegisterDataType.the-variants.{Float, UInt32}
 use Rattle.registers.specs.declared.RegisterValue.the-variants as Value
@@ -12,9 +12,9 @@ use Rattle.session.specs.declared.Run.{Run}
 use Rattle.session.specs.declared.Phase.{Phase}
 use Rattle.session.specs.declared.Phase.the-variants.{Closed, Open}
 use Rattle.session.specs.declared.Session.{Session}
-use Rattle.session_answer.specs.Answer.{caller-want}
-use Rattle.session_answer.specs.declared.Told.{Told}
-use Rattle.session_answer.specs.declared.Told.the-variants as Told
+use Rattle.session_step.specs.Parts.{caller-want}
+use Rattle.session_step.specs.declared.Told.{Told}
+use Rattle.session_step.specs.declared.Told.the-variants as Told
 use Rattle.session_answer.specs.declared.AfterCall.{AfterCall}
 use Rattle.run_arguments.specs.Arguments.{get-start, write-start, fresh-state-start, store-start, mode-start}
 use Rattle.run_arguments.specs.declared.StartCheck.{StartCheck}

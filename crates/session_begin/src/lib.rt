@@ -4,7 +4,6 @@ ghost use mathlib.Core.Path.{_≡_};
 ghost use Rattle.session_begin.specs.Begin as Spec;
 use float::F32Bits;
 use motor_core::error::RUN_OPEN;
-use motor_core::time::Duration;
 use registers::RegisterDataType;
 use registers::RegisterValue;
 use registers::value_from_bits;
@@ -20,8 +19,9 @@ use session::Phase;
 use session::Run;
 use session::Session;
 use session_answer::AfterCall;
-use session_answer::Told;
-use session_answer::caller_want;
+use session_step::Told;
+use session_step::caller_want;
+use time::Duration;
 
 // The run after a start, and what the start returns.
 struct StartStep {
@@ -60,16 +60,13 @@ fn start_step(head: Head, run: Run, start: StartCheck) -> StartStep
     }
 }
 
-fn begin(session: Session, start: StartCheck) -> AfterCall
+fn begin(mut session: Session, start: StartCheck) -> AfterCall
     ensures { λ r. ⌜ r ≡ Spec.begin session start ⌝ }
 {
-    let mut session = session;
-    let head = session.head;
-    let run = session.run;
-    let step = start_step(head, run, start);
-    let run_after = step.run;
+    let step = start_step(session.head, session.run, start);
+    let run = step.run;
     let told = step.told;
-    session.run = run_after;
+    session.run = run;
     AfterCall { session, told }
 }
 

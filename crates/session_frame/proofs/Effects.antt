@@ -1,5 +1,5 @@
 -- What taking a frame does to a register's reply and ack, to the record and to the last reading, and what it leaves alone. Assumes nothing.
-use Rattle.protocol_received.specs.declared.SensorFeedback.{SensorFeedback}
+use Rattle.protocol_feedback.specs.declared.SensorFeedback.{SensorFeedback}
 use Prim.Native.Nat.{ℕ, _≤_, _<_, _^_}
 use mathlib.Core.Path.{_≡_, refl, sym, ap, _∙_, subst}
 use mathlib.Core.Bool.{Bool, true, false, cond, true≢false}
@@ -11,12 +11,13 @@ use lib.ListN.{length, length-set}
 use lib.Seq.{getD-set-same, getD-set-other}
 use Rattle.motor_core.specs.declared.bus.CanFrame.{CanFrame}
 use Rattle.motor_core.specs.declared.model.PvTLimits.{PvTLimits}
-use Rattle.motor_core.specs.declared.time.Instant.{Instant}
+use Rattle.time.specs.declared.Instant.{Instant}
 use Rattle.registers.specs.Registers.{known}
 use Rattle.registers.specs.declared.RegisterValue.{RegisterValue}
 use Rattle.registers.proofs.Below.{known-below}
 use Rattle.protocol_received.specs.OfRegister.{OfRegister}
-use Rattle.protocol_received.specs.Received.{d, class-of, by-class, received}
+use Rattle.protocol_frame.specs.Layout.{d}
+use Rattle.protocol_received.specs.Received.{class-of, by-class, received}
 use Rattle.protocol_received.specs.declared.FrameClass.{FrameClass}
 use Rattle.protocol_received.specs.declared.FrameClass.the-variants as Class
 use Rattle.protocol_received.specs.declared.Received.{Received}

@@ -5,10 +5,10 @@ use mathlib.Core.Path.{_≡_, refl, ap}
 use mathlib.Core.Bool.{Bool, true, false, cond}
 use native.Mathlib.Omega.{arith}
 use Rattle.motor_core.specs.Error as Error
-use Rattle.motor_core.specs.Time.{reading-accepted}
+use Rattle.time.specs.Time.{reading-accepted}
 use Rattle.motor_core.specs.declared.bus.CanFrame.{CanFrame}
-use Rattle.motor_core.specs.declared.time.Instant.{Instant}
-use Rattle.motor_core.proofs.Readings.{between, in-order}
+use Rattle.time.specs.declared.Instant.{Instant}
+use Rattle.time.proofs.Readings.{between, in-order}
 use Rattle.session.specs.declared.Head.{Head}
 use Rattle.session_frame.specs.Frame.{frame-outcome}
 use Rattle.session_frame.specs.declared.FrameOutcome.{FrameOutcome}

@@ -4,7 +4,7 @@ use mathlib.Core.Bool.{cond}
 use mathlib.Core.Option.{Option, none, some}
 use lib.Dec.{eqb}
 use Rattle.motor_core.specs.declared.bus.CanFrame.{CanFrame}
-use Rattle.motor_core.specs.declared.time.Instant.{Instant}
+use Rattle.time.specs.declared.Instant.{Instant}
 use Rattle.registers.specs.declared.RegisterValue.{RegisterValue}
 use Rattle.protocol_received.specs.declared.Received.{Received}
 use Rattle.protocol_received.specs.declared.Received.the-variants.{Reply, Ack, Feedback}

@@ -5,9 +5,9 @@ use mathlib.Core.List.{List}
 use mathlib.Core.Option.{Option, none, some}
 use lib.ListN.{set}
 use Rattle.motor_core.specs.Error as Error
-use Rattle.motor_core.specs.Time.{reading-accepted}
+use Rattle.time.specs.Time.{reading-accepted}
 use Rattle.motor_core.specs.declared.bus.CanFrame.{CanFrame}
-use Rattle.motor_core.specs.declared.time.Instant.{Instant}
+use Rattle.time.specs.declared.Instant.{Instant}
 use Rattle.registers.specs.declared.RegisterValue.{RegisterValue}
 use Rattle.protocol_received.specs.Received.{received}
 use Rattle.protocol_received.specs.declared.Received.{Received}

@@ -1,12 +1,9 @@
-// Taking a frame into a session. The work is done on the session's small parts, with at most one slot
-// that is written; the entry on a whole session is thin around it.
+// A frame, in the small parts of a session: its head, and at most one slot that is to be kept.
 ghost use mathlib.Core.Path.{_≡_};
 ghost use Rattle.state_cache.specs.Cache.{held};
 ghost use Rattle.session_frame.specs.Frame as Spec;
 use motor_core::bus::CanFrame;
 use motor_core::error::READING;
-use motor_core::time::Instant;
-use motor_core::time::accepts_reading;
 use protocol_received::Received;
 use protocol_received::read_frame;
 use registers::RegisterValue;
@@ -14,10 +11,11 @@ use session::Head;
 use session::Session;
 use state_cache::Entry;
 use state_cache::Slot;
-use state_cache::slot_place;
 use state_feedback::FeedbackCache;
 use state_feedback::state_of;
 use state_feedback::update;
+use time::Instant;
+use time::accepts_reading;
 
 pub enum FrameOutcome {
     Taken,
@@ -109,30 +107,4 @@ pub fn frame_step(head: Head, frame: CanFrame, reading: Instant) -> FrameStep
         read_frame(data, limits),
         reading,
     )
-}
-
-// Takes a frame, with its reading, into a session.
-pub fn process_feedback_frame(session: Session, frame: CanFrame, reading: Instant) -> AfterFrame
-    ensures { λ r. ⌜ r ≡ Spec.take-frame session frame reading ⌝ }
-{
-    let mut session = session;
-    let head = session.head;
-    let step = frame_step(head, frame, reading);
-    let head_after = step.head;
-    session.head = head_after;
-    let kept = step.kept;
-    let outcome = step.outcome;
-    match kept {
-        Kept::Nothing => AfterFrame { session, outcome },
-        Kept::Reply(rid, slot) => {
-            let place = slot_place(rid);
-            session.replies[place] = slot;
-            AfterFrame { session, outcome }
-        }
-        Kept::Ack(rid, slot) => {
-            let place = slot_place(rid);
-            session.acks[place] = slot;
-            AfterFrame { session, outcome }
-        }
-    }
 }

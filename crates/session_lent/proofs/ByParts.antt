@@ -6,11 +6,11 @@ use mathlib.Core.List.{List}
 use lib.ListN.{getD, set}
 use lib.Seq.{set-getD}
 use Rattle.motor_core.specs.declared.bus.CanFrame.{CanFrame}
-use Rattle.motor_core.specs.declared.time.Instant.{Instant}
+use Rattle.time.specs.declared.Instant.{Instant}
 use Rattle.registers.specs.Registers.{known}
 use Rattle.registers.proofs.Below.{known-below}
 use Rattle.protocol_received.specs.OfRegister.{OfRegister}
-use Rattle.protocol_received.specs.Received.{d}
+use Rattle.protocol_frame.specs.Layout.{d}
 use Rattle.protocol_received.specs.declared.Received.{Received}
 use Rattle.protocol_received.specs.declared.Received.the-variants.{Reply, Ack, Feedback}
 use Rattle.protocol_received.proofs.OfRegister.{of-register}

@@ -2,8 +2,8 @@
 use Prim.Native.Nat.{ℕ}
 use lib.ListN.{set}
 use Rattle.motor_core.specs.declared.bus.CanFrame.{CanFrame}
-use Rattle.motor_core.specs.declared.time.Instant.{Instant}
-use Rattle.protocol_received.specs.Received.{d}
+use Rattle.time.specs.declared.Instant.{Instant}
+use Rattle.protocol_frame.specs.Layout.{d}
 use Rattle.state_cache.specs.Cache.{slot-of, slot-place}
 use Rattle.state_cache.specs.declared.Slot.{Slot}
 use Rattle.session.specs.declared.Head.{Head}

@@ -4,7 +4,6 @@ ghost use mathlib.Core.Path.{_≡_};
 ghost use Rattle.session_frame.specs.Frame.{take-frame};
 ghost use Rattle.session_lent.specs.Lent as Spec;
 use motor_core::bus::CanFrame;
-use motor_core::time::Instant;
 use session::Head;
 use session::Session;
 use session_frame::AfterFrame;
@@ -13,6 +12,7 @@ use session_frame::Kept;
 use session_frame::frame_step;
 use state_cache::Slot;
 use state_cache::slot_place;
+use time::Instant;
 
 // What a frame works on: the head, and its register's slot among the replies and among the acks.
 pub struct Parts {
@@ -81,10 +81,9 @@ pub fn process_feedback_frame(
 }
 
 // The same for a session that goes by value: it is lent for the frame and handed back.
-pub fn take_frame(session: Session, frame: CanFrame, reading: Instant) -> AfterFrame
+pub fn take_frame(mut session: Session, frame: CanFrame, reading: Instant) -> AfterFrame
     ensures { λ r. ⌜ r ≡ take-frame session frame reading ⌝ }
 {
-    let mut session = session;
     let outcome = process_feedback_frame(&mut session, frame, reading);
     AfterFrame { session, outcome }
 }

@@ -2,9 +2,9 @@
 use crate::sessions::frame_number;
 use crate::sessions::session_4310;
 use crate::sessions::session_total;
-use motor_core::time::Instant;
 use session::Session;
 use session_lent::process_feedback_frame;
+use time::Instant;
 
 // A frame's reading is its place.
 fn after_frames(frames: &[u8], count: usize, mut session: Session) -> Session {

@@ -1,8 +1,8 @@
 // Queries of the model list. The checksum has every name that is listed, in order.
 use crate::sums::mixed;
+use model_damiao::damiao_models;
 use model_list::ModelList;
 use model_list::Names;
-use model_list::damiao_models;
 use model_list::places;
 use model_match::match_models_by_limits;
 use model_query::Query;

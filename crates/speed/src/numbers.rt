@@ -1,9 +1,9 @@
 // Inputs of five floats each, random.
 use crate::random::between;
 use crate::random::next;
+use model_damiao::damiao_models;
 use model_list::MODEL_PLACES;
 use model_list::Maxima;
-use model_list::damiao_models;
 
 // Setpoints that go beyond the limits of model 4310, and those of kp and kd, by so much of their span
 // at either end; or queries near a model's limits, with a tolerance, and a number that is not used.

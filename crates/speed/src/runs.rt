@@ -7,21 +7,21 @@ use crate::sessions::session_4310;
 use crate::sessions::session_total;
 use crate::sums::mixed;
 use motor_core::bus::CanFrame;
-use motor_core::time::Duration;
-use motor_core::time::Instant;
 use protocol_frame::data_bytes;
 use registers::value_bits;
 use run_machine::RunResult;
 use run_want::Answer;
 use run_want::SendResult;
 use session_answer::AfterCall;
-use session_answer::Told;
-use session_answer::Wanted;
 use session_answer::answer_run;
 use session_begin::ensure_control_mode;
 use session_begin::get_register_u32;
 use session_begin::write_register_u32;
-use session_frame::process_feedback_frame;
+use session_lent::take_frame;
+use session_step::Told;
+use session_step::Wanted;
+use time::Duration;
+use time::Instant;
 ghost use Prim.Native.Nat.{_<_};
 
 // In nanoseconds.
@@ -126,7 +126,7 @@ fn sent(line: Line, data: u64) -> Line {
     let turn = line.turn;
     let session = turn.session;
     let now = line.now;
-    let taking = process_feedback_frame(session, motor_frame(line.value, data), now);
+    let taking = take_frame(session, motor_frame(line.value, data), now);
     let head = taking.session;
     let after = answer_run(head, Answer::Send(SendResult::Sent));
     told(after, value_after(line.value, data), now, line.sum)

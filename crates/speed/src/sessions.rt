@@ -4,18 +4,18 @@ use crate::sums::float_bits;
 use crate::sums::mixed;
 use model_list::Maxima;
 use motor_core::bus::CanFrame;
-use motor_core::time::Instant;
 use protocol_status::StatusName;
 use registers::RegisterValue;
 use registers::holds_u32;
 use registers::value_bits;
 use session::Session;
 use session::start::from_limits;
-use session_frame::process_feedback_frame;
+use session_lent::take_frame;
 use state_cache::Entry;
 use state_cache::Slot;
 use state_feedback::Latest;
 use state_feedback::MotorFeedbackState;
+use time::Instant;
 
 pub(crate) fn session_4310() -> Session {
     let start = from_limits(
@@ -54,7 +54,7 @@ pub(crate) fn take(frames: &[u8]) -> u64 {
     let count = frames.len() / 8;
     for k in 0..count {
         let frame = frame_of(data_at(frames, k * 8));
-        let taking = process_feedback_frame(session, frame, Instant(k as u64));
+        let taking = take_frame(session, frame, Instant(k as u64));
         session = taking.session;
     }
     session_total(session)

@@ -5,7 +5,7 @@ use mathlib.Core.List.{List}
 use lib.Dec.{ltb}
 use lib.ListN.{getD}
 use Rattle.motor_core.specs.Error as Error
-use Rattle.motor_core.specs.declared.time.Instant.{Instant}
+use Rattle.time.specs.declared.Instant.{Instant}
 use Rattle.registers.specs.Registers.{known}
 use Rattle.registers.specs.declared.RegisterValue.{RegisterValue}
 use Rattle.state_cache.specs.declared.Entry.the-variants.{Empty, Held}

@@ -3,8 +3,8 @@
 ghost use mathlib.Core.Path.{_≡_};
 ghost use Rattle.state_cache.specs.Cache as Spec;
 use motor_core::error::REGISTER;
-use motor_core::time::Instant;
 use registers::RegisterValue;
+use time::Instant;
 
 pub enum Entry {
     Empty,

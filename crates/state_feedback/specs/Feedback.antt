@@ -1,10 +1,10 @@
 -- The latest feedback: document 01's 'The feedback on the screen', its last rule. Definitions only.
 use Prim.Native.Nat.{ℕ, _+_, _-_, _^_, min}
 use mathlib.Core.Bool.{Bool, true, false}
-use Rattle.motor_core.specs.declared.time.Instant.{Instant}
+use Rattle.time.specs.declared.Instant.{Instant}
 use Rattle.float.specs.Arithmetic.{float}
 use Rattle.protocol_status.specs.Status.{status-name}
-use Rattle.protocol_received.specs.declared.SensorFeedback.{SensorFeedback}
+use Rattle.protocol_feedback.specs.declared.SensorFeedback.{SensorFeedback}
 use Rattle.state_feedback.specs.declared.MotorFeedbackState.{MotorFeedbackState}
 use Rattle.state_feedback.specs.declared.FeedbackSnapshot.{FeedbackSnapshot}
 use Rattle.state_feedback.specs.declared.Latest.{Latest}

@@ -2,9 +2,9 @@
 // of its status and temperatures.
 ghost use mathlib.Core.Path.{_≡_};
 ghost use Rattle.state_feedback.specs.Feedback as Spec;
-use motor_core::time::Instant;
-use protocol_received::SensorFeedback;
+use protocol_feedback::SensorFeedback;
 use protocol_status::StatusName;
+use time::Instant;
 
 pub struct MotorFeedbackState {
     pub can_id: u8,

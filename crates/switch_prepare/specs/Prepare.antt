@@ -1,10 +1,11 @@
 -- `prepare_for_mode_switch`: the position to hold, then four clearing frames, which may fail. Definitions only.
 use Rattle.float.specs.declared.F32Bits.{F32Bits}
-use Rattle.motor_core.specs.declared.time.Instant.{Instant}
-use Rattle.motor_core.specs.declared.time.Duration.{Duration}
+use Rattle.time.specs.declared.Instant.{Instant}
+use Rattle.time.specs.declared.Duration.{Duration}
 use Rattle.registers.specs.Value.{bits-of}
 use Rattle.protocol_hold.specs.declared.ControlMode.{ControlMode}
 use Rattle.protocol_hold.specs.declared.ControlMode.the-variants.{Mit, PosVel, Vel, ForcePos}
+use Rattle.run_wait.specs.declared.ask.Ask.{Ask}
 use Rattle.run_wait.specs.declared.ask.Ask.the-variants.{Opening}
 use Rattle.run_read.specs.declared.ReadNext.{ReadNext}
 use Rattle.run_read.specs.declared.ReadNext.the-variants as Read
@@ -20,33 +21,38 @@ use Rattle.switch_prepare.specs.declared.PrepareNext.the-variants.{Goes,
 abbrev pub holding-at : Progress → F32Bits → Progress
 holding-at p position = record { deadline = p .deadline; «hold_position» = Position.Some position; «last_error» = p .«last_error» }
 
--- every mode's setpoint, the velocity's first
-abbrev pub clear : Progress → PrepareNext
-clear p = Goes p (Clearing Vel)
+abbrev pub read-position : Progress → PrepareNext
+read-position p = Goes p HoldRemaining
 
--- the velocity mode holds no position
+abbrev pub reading-position : Progress → Duration → Ask → PrepareNext
+reading-position p length ask = Goes p (HoldReading length ask)
+
+abbrev pub clear : Progress → ControlMode → PrepareNext
+clear p channel = Goes p (Clearing channel)
+
+-- the velocity mode holds no position; every mode's setpoint is cleared, the velocity's first
 abbrev pub prepare : ControlMode → Progress → PrepareNext
-prepare Mit p = Goes p HoldRemaining
-prepare PosVel p = Goes p HoldRemaining
-prepare Vel p = clear p
-prepare ForcePos p = Goes p HoldRemaining
+prepare Mit p = read-position p
+prepare PosVel p = read-position p
+prepare Vel p = clear p Vel
+prepare ForcePos p = read-position p
 
 abbrev pub hold-timed : Progress → TimeLeft → PrepareNext
-hold-timed p Left.None = clear p
-hold-timed p (Left.Some length) = Goes p (HoldReading length Opening)
+hold-timed p Left.None = clear p Vel
+hold-timed p (Left.Some length) = reading-position p length Opening
 
 abbrev pub hold-time : Duration → Progress → Instant → PrepareNext
 hold-time timeout p now = hold-timed p (capped-remaining (p .deadline) (hold-read-cap timeout) now)
 
 -- every failure of that read means no position
 abbrev pub after-hold-read : Progress → Duration → ReadNext → PrepareNext
-after-hold-read p length (Read.Goes ask) = Goes p (HoldReading length ask)
-after-hold-read p length (Read.Got value) = clear (holding-at p (record { 0 = bits-of value }))
-after-hold-read p length (Read.Failed failure) = clear p
+after-hold-read p length (Read.Goes ask) = reading-position p length ask
+after-hold-read p length (Read.Got value) = clear (holding-at p (record { 0 = bits-of value })) Vel
+after-hold-read p length (Read.Failed failure) = clear p Vel
 
 -- velocity, position-velocity, force-position, MIT; then the mode can be written
 abbrev pub cleared : ControlMode → Progress → PrepareNext
-cleared Vel p = Goes p (Clearing PosVel)
-cleared PosVel p = Goes p (Clearing ForcePos)
-cleared ForcePos p = Goes p (Clearing Mit)
+cleared Vel p = clear p PosVel
+cleared PosVel p = clear p ForcePos
+cleared ForcePos p = clear p Mit
 cleared Mit p = Ready p

@@ -2,8 +2,6 @@
 ghost use mathlib.Core.Path.{_≡_};
 ghost use Rattle.switch_prepare.specs.Prepare as Spec;
 use float::F32Bits;
-use motor_core::time::Duration;
-use motor_core::time::Instant;
 use protocol_hold::ControlMode;
 use registers::value_bits;
 use run_read::ReadNext;
@@ -14,6 +12,8 @@ use switch_stage::Stage;
 use switch_time::TimeLeft;
 use switch_time::capped_remaining;
 use switch_time::hold_read_cap;
+use time::Duration;
+use time::Instant;
 
 // The preparation goes on, or the mode can be written.
 pub enum PrepareNext {
@@ -33,11 +33,22 @@ fn holding_at(progress: Progress, position: F32Bits) -> Progress
     }
 }
 
-// Every mode's setpoint is cleared, the velocity's first.
-fn clear(progress: Progress) -> PrepareNext
-    ensures { λ r. ⌜ r ≡ Spec.clear progress ⌝ }
+fn read_position(progress: Progress) -> PrepareNext
+    ensures { λ r. ⌜ r ≡ Spec.read-position progress ⌝ }
 {
-    PrepareNext::Goes(progress, Stage::Clearing(ControlMode::Vel))
+    PrepareNext::Goes(progress, Stage::HoldRemaining)
+}
+
+fn reading_position(progress: Progress, length: Duration, ask: Ask) -> PrepareNext
+    ensures { λ r. ⌜ r ≡ Spec.reading-position progress length ask ⌝ }
+{
+    PrepareNext::Goes(progress, Stage::HoldReading(length, ask))
+}
+
+fn clear(progress: Progress, channel: ControlMode) -> PrepareNext
+    ensures { λ r. ⌜ r ≡ Spec.clear progress channel ⌝ }
+{
+    PrepareNext::Goes(progress, Stage::Clearing(channel))
 }
 
 // The position to hold is read, but for the velocity mode.
@@ -45,10 +56,10 @@ pub fn prepare(mode: ControlMode, progress: Progress) -> PrepareNext
     ensures { λ r. ⌜ r ≡ Spec.prepare mode progress ⌝ }
 {
     match mode {
-        ControlMode::Mit => PrepareNext::Goes(progress, Stage::HoldRemaining),
-        ControlMode::PosVel => PrepareNext::Goes(progress, Stage::HoldRemaining),
-        ControlMode::Vel => clear(progress),
-        ControlMode::ForcePos => PrepareNext::Goes(progress, Stage::HoldRemaining),
+        ControlMode::Mit => return read_position(progress),
+        ControlMode::PosVel => return read_position(progress),
+        ControlMode::Vel => return clear(progress, ControlMode::Vel),
+        ControlMode::ForcePos => return read_position(progress),
     }
 }
 
@@ -58,10 +69,8 @@ pub fn hold_time(timeout: Duration, progress: Progress, now: Instant) -> Prepare
 {
     let left = capped_remaining(progress.deadline, hold_read_cap(timeout), now);
     match left {
-        TimeLeft::None => clear(progress),
-        TimeLeft::Some(length) => {
-            PrepareNext::Goes(progress, Stage::HoldReading(length, Ask::Opening))
-        }
+        TimeLeft::None => return clear(progress, ControlMode::Vel),
+        TimeLeft::Some(length) => return reading_position(progress, length, Ask::Opening),
     }
 }
 
@@ -70,9 +79,14 @@ pub fn after_hold_read(progress: Progress, length: Duration, next: ReadNext) -> 
     ensures { λ r. ⌜ r ≡ Spec.after-hold-read progress length next ⌝ }
 {
     match next {
-        ReadNext::Goes(ask) => PrepareNext::Goes(progress, Stage::HoldReading(length, ask)),
-        ReadNext::Got(value) => clear(holding_at(progress, F32Bits(value_bits(value)))),
-        ReadNext::Failed(_) => clear(progress),
+        ReadNext::Goes(ask) => return reading_position(progress, length, ask),
+        ReadNext::Got(value) => {
+            return clear(
+                holding_at(progress, F32Bits(value_bits(value))),
+                ControlMode::Vel,
+            );
+        }
+        ReadNext::Failed(_) => return clear(progress, ControlMode::Vel),
     }
 }
 
@@ -81,9 +95,9 @@ pub fn cleared(channel: ControlMode, progress: Progress) -> PrepareNext
     ensures { λ r. ⌜ r ≡ Spec.cleared channel progress ⌝ }
 {
     match channel {
-        ControlMode::Vel => PrepareNext::Goes(progress, Stage::Clearing(ControlMode::PosVel)),
-        ControlMode::PosVel => PrepareNext::Goes(progress, Stage::Clearing(ControlMode::ForcePos)),
-        ControlMode::ForcePos => PrepareNext::Goes(progress, Stage::Clearing(ControlMode::Mit)),
-        ControlMode::Mit => PrepareNext::Ready(progress),
+        ControlMode::Vel => return clear(progress, ControlMode::PosVel),
+        ControlMode::PosVel => return clear(progress, ControlMode::ForcePos),
+        ControlMode::ForcePos => return clear(progress, ControlMode::Mit),
+        ControlMode::Mit => return PrepareNext::Ready(progress),
     }
 }

@@ -3,8 +3,6 @@
 ghost use mathlib.Core.Path.{_≡_};
 ghost use Rattle.switch_stage.specs.Stage as Spec;
 use float::F32Bits;
-use motor_core::time::Duration;
-use motor_core::time::Instant;
 use protocol_hold::ControlMode;
 use protocol_hold::mode_number;
 use registers::RegisterValue;
@@ -16,6 +14,8 @@ use run_want::message::Message;
 use run_write::Write;
 use run_write::write_want;
 use state_cache::Place;
+use time::Duration;
+use time::Instant;
 
 const MODE_REGISTER: u8 = 10;
 

@@ -1,8 +1,8 @@
 -- The mode switch, `ensure_control_mode`: document 01's 'The runs'. Definitions only.
 use Prim.Native.Nat.{zero, suc}
 use mathlib.Core.Bool.{cond}
-use Rattle.motor_core.specs.declared.time.Instant.{Instant}
-use Rattle.motor_core.specs.declared.time.Duration.{Duration}
+use Rattle.time.specs.declared.Instant.{Instant}
+use Rattle.time.specs.declared.Duration.{Duration}
 use Rattle.registers.specs.Value.{same-value}
 use Rattle.registers.specs.declared.RegisterDataType.the-variants.{Float, UInt32}
 use Rattle.registers.specs.declared.RegisterValue.{RegisterValue}
@@ -12,6 +12,7 @@ use Rattle.run_want.specs.Want.{reading-of, send-outcome}
 use Rattle.run_want.specs.declared.Answer.{Answer}
 use Rattle.run_want.specs.declared.Failure.{Failure}
 use Rattle.run_want.specs.declared.Failure.the-variants as Failure
+use Rattle.run_wait.specs.declared.ask.Ask.{Ask}
 use Rattle.run_wait.specs.declared.ask.Ask.the-variants.{Opening}
 use Rattle.run_read.specs.Read.{get-step}
 use Rattle.run_read.specs.declared.ReadNext.{ReadNext}
@@ -41,15 +42,25 @@ use Rattle.switch_write.specs.WriteMode.{write-mode, after-prepare, after-mode-
 abbrev pub first-progress : Instant → Progress
 first-progress deadline = record { deadline = deadline; «hold_position» = Position.None; «last_error» = Failure.Timeout }
 
+abbrev pub started : Instant → SwitchNext
+started deadline = goes (first-progress deadline) (Remaining First)
+
 abbrev pub with-error : Progress → Failure → Progress
 with-error p error = record { deadline = p .deadline; «hold_position» = p .«hold_position»; «last_error» = error }
 
 -- ---- reading the mode
 
--- not found: the first read is followed by the preparation, a verifying one by another write; the last one's error is the result
+abbrev pub reads-mode : ModeRead → Progress → Duration → Ask → SwitchNext
+reads-mode which p length ask = goes p (Reading which length ask)
+
+-- the last error is the result
+abbrev pub given-up : Progress → SwitchNext
+given-up p = Failed (p .«last_error»)
+
+-- not found: the first read is followed by the preparation, a verifying one by another write, unless it was the last
 abbrev pub not-yet : ControlMode → ModeRead → Progress → SwitchNext
 not-yet mode First p = after-prepare (prepare mode p)
-not-yet mode (Verify zero) p = Failed (p .«last_error»)
+not-yet mode (Verify zero) p = given-up p
 not-yet mode (Verify (suc verifies-left)) p = write-mode verifies-left p
 
 abbrev pub mode-got : ControlMode → ModeRead → Progress → RegisterValue → SwitchNext
@@ -63,14 +74,14 @@ mode-unread mode which p Failure.WrongType = Failed Failure.WrongType
 mode-unread mode which p Failure.SendFailed = Failed Failure.SendFailed
 
 abbrev pub after-mode-read : ControlMode → ModeRead → Progress → Duration → ReadNext → SwitchNext
-after-mode-read mode which p length (Read.Goes ask) = goes p (Reading which length ask)
+after-mode-read mode which p length (Read.Goes ask) = reads-mode which p length ask
 after-mode-read mode which p length (Read.Got value) = mode-got mode which p value
 after-mode-read mode which p length (Read.Failed failure) = mode-unread mode which p failure
 
--- past the deadline no read is tried, and the result is the last error
+-- past the deadline no read is tried
 abbrev pub mode-timed : ModeRead → Progress → TimeLeft → SwitchNext
-mode-timed which p Left.None = Failed (p .«last_error»)
-mode-timed which p (Left.Some length) = goes p (Reading which length Opening)
+mode-timed which p Left.None = given-up p
+mode-timed which p (Left.Some length) = reads-mode which p length Opening
 
 abbrev pub mode-time : Duration → ModeRead → Progress → Instant → SwitchNext
 mode-time timeout which p now = mode-timed which p (capped-remaining (p .deadline) (mode-read-cap timeout) now)
@@ -91,5 +102,5 @@ stage-step mode timeout entry p (Holding verifies-left) answer = after-finish ve
 
 -- the first reading sets the deadline
 abbrev pub switch-step : ControlMode → Duration → Entry → Switch → Answer → SwitchNext
-switch-step mode timeout entry Starting answer = goes (first-progress (deadline-after (reading-of answer) timeout)) (Remaining First)
+switch-step mode timeout entry Starting answer = started (deadline-after (reading-of answer) timeout)
 switch-step mode timeout entry (Begun p stage) answer = stage-step mode timeout entry p stage answer

@@ -1,8 +1,6 @@
 // The mode switch, `ensure_control_mode`: the reads of the mode, and the step from stage to stage.
 ghost use mathlib.Core.Path.{_≡_};
 ghost use Rattle.switch_step.specs.Switch as Spec;
-use motor_core::time::Duration;
-use motor_core::time::Instant;
 use protocol_hold::ControlMode;
 use registers::RegisterDataType;
 use registers::RegisterValue;
@@ -38,6 +36,8 @@ use switch_write::after_prepare;
 use switch_write::settle_sleep;
 use switch_write::slept;
 use switch_write::write_mode;
+use time::Duration;
+use time::Instant;
 
 fn first_progress(deadline: Instant) -> Progress
     ensures { λ r. ⌜ r ≡ Spec.first-progress deadline ⌝ }
@@ -47,6 +47,26 @@ fn first_progress(deadline: Instant) -> Progress
         hold_position: HoldPosition::None,
         last_error: Failure::Timeout,
     }
+}
+
+fn started(deadline: Instant) -> SwitchNext
+    ensures { λ r. ⌜ r ≡ Spec.started deadline ⌝ }
+{
+    SwitchNext::Goes(Switch::Begun(first_progress(deadline), Stage::Remaining(ModeRead::First)))
+}
+
+// The result is the last error.
+fn given_up(progress: Progress) -> SwitchNext
+    ensures { λ r. ⌜ r ≡ Spec.given-up progress ⌝ }
+{
+    let error = progress.last_error;
+    SwitchNext::Failed(error)
+}
+
+fn reads_mode(which: ModeRead, progress: Progress, length: Duration, ask: Ask) -> SwitchNext
+    ensures { λ r. ⌜ r ≡ Spec.reads-mode which progress length ask ⌝ }
+{
+    SwitchNext::Goes(Switch::Begun(progress, Stage::Reading(which, length, ask)))
 }
 
 fn with_error(progress: Progress, error: Failure) -> Progress
@@ -66,13 +86,12 @@ fn not_yet(mode: ControlMode, which: ModeRead, progress: Progress) -> SwitchNext
     ensures { λ r. ⌜ r ≡ Spec.not-yet mode which progress ⌝ }
 {
     match which {
-        ModeRead::First => after_prepare(prepare(mode, progress)),
+        ModeRead::First => return after_prepare(prepare(mode, progress)),
         ModeRead::Verify(verifies_left) => {
             if verifies_left == 0 {
-                let error = progress.last_error;
-                return SwitchNext::Failed(error);
+                return given_up(progress);
             }
-            write_mode(verifies_left - 1, progress)
+            return write_mode(verifies_left - 1, progress);
         }
     }
 }
@@ -101,10 +120,10 @@ fn mode_unread(
     ensures { λ r. ⌜ r ≡ Spec.mode-unread mode which progress failure ⌝ }
 {
     match failure {
-        Failure::Timeout => not_yet(mode, which, with_error(progress, Failure::Timeout)),
-        Failure::Mismatch(got) => SwitchNext::Failed(Failure::Mismatch(got)),
-        Failure::WrongType => SwitchNext::Failed(Failure::WrongType),
-        Failure::SendFailed => SwitchNext::Failed(Failure::SendFailed),
+        Failure::Timeout => return not_yet(mode, which, with_error(progress, failure)),
+        Failure::Mismatch(_) => return SwitchNext::Failed(failure),
+        Failure::WrongType => return SwitchNext::Failed(failure),
+        Failure::SendFailed => return SwitchNext::Failed(failure),
     }
 }
 
@@ -118,12 +137,9 @@ fn after_mode_read(
     ensures { λ r. ⌜ r ≡ Spec.after-mode-read mode which progress length next ⌝ }
 {
     match next {
-        ReadNext::Goes(ask) => SwitchNext::Goes(Switch::Begun(
-            progress,
-            Stage::Reading(which, length, ask),
-        )),
-        ReadNext::Got(value) => mode_got(mode, which, progress, value),
-        ReadNext::Failed(failure) => mode_unread(mode, which, progress, failure),
+        ReadNext::Goes(ask) => return reads_mode(which, progress, length, ask),
+        ReadNext::Got(value) => return mode_got(mode, which, progress, value),
+        ReadNext::Failed(failure) => return mode_unread(mode, which, progress, failure),
     }
 }
 
@@ -132,13 +148,8 @@ fn mode_time(timeout: Duration, which: ModeRead, progress: Progress, now: Instan
 {
     let left = capped_remaining(progress.deadline, mode_read_cap(timeout), now);
     match left {
-        TimeLeft::None => {
-            let error = progress.last_error;
-            SwitchNext::Failed(error)
-        }
-        TimeLeft::Some(length) => {
-            SwitchNext::Goes(Switch::Begun(progress, Stage::Reading(which, length, Ask::Opening)))
-        }
+        TimeLeft::None => return given_up(progress),
+        TimeLeft::Some(length) => return reads_mode(which, progress, length, Ask::Opening),
     }
 }
 
@@ -154,32 +165,36 @@ fn stage_step(
     ensures { λ r. ⌜ r ≡ Spec.stage-step mode timeout entry progress stage answer ⌝ }
 {
     match stage {
-        Stage::Remaining(which) => mode_time(timeout, which, progress, reading_of(answer)),
-        Stage::Reading(which, length, ask) => after_mode_read(
+        Stage::Remaining(which) => return mode_time(timeout, which, progress, reading_of(answer)),
+        Stage::Reading(which, length, ask) => return after_mode_read(
             mode,
             which,
             progress,
             length,
             get_step(RegisterDataType::UInt32, length, entry, ask, answer),
         ),
-        Stage::HoldRemaining => after_prepare(hold_time(timeout, progress, reading_of(answer))),
-        Stage::HoldReading(length, ask) => after_prepare(after_hold_read(
+        Stage::HoldRemaining => return after_prepare(hold_time(
+            timeout,
+            progress,
+            reading_of(answer),
+        )),
+        Stage::HoldReading(length, ask) => return after_prepare(after_hold_read(
             progress,
             length,
             get_step(RegisterDataType::Float, length, entry, ask, answer),
         )),
-        Stage::Clearing(channel) => after_prepare(cleared(channel, progress)),
-        Stage::Writing(verifies_left, write) => after_mode_write(
+        Stage::Clearing(channel) => return after_prepare(cleared(channel, progress)),
+        Stage::Writing(verifies_left, write) => return after_mode_write(
             verifies_left,
             progress,
             write_step(mode_value(mode), entry, write, answer),
         ),
         Stage::SettleRemaining(verifies_left) => {
-            settle_sleep(mode, timeout, verifies_left, progress, reading_of(answer))
+            return settle_sleep(mode, timeout, verifies_left, progress, reading_of(answer));
         }
-        Stage::SettleSleep(verifies_left, _) => slept(mode, verifies_left, progress),
+        Stage::SettleSleep(verifies_left, _) => return slept(mode, verifies_left, progress),
         Stage::Holding(verifies_left) => {
-            after_finish(verifies_left, progress, held(send_outcome(answer)))
+            return after_finish(verifies_left, progress, held(send_outcome(answer)));
         }
     }
 }
@@ -194,10 +209,14 @@ pub fn switch_step(
     ensures { λ r. ⌜ r ≡ Spec.switch-step mode timeout entry switch answer ⌝ }
 {
     match switch {
-        Switch::Starting => SwitchNext::Goes(Switch::Begun(
-            first_progress(deadline_after(reading_of(answer), timeout)),
-            Stage::Remaining(ModeRead::First),
-        )),
-        Switch::Begun(progress, stage) => stage_step(mode, timeout, entry, progress, stage, answer),
+        Switch::Starting => return started(deadline_after(reading_of(answer), timeout)),
+        Switch::Begun(progress, stage) => return stage_step(
+            mode,
+            timeout,
+            entry,
+            progress,
+            stage,
+            answer,
+        ),
     }
 }

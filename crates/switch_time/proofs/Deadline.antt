@@ -4,10 +4,10 @@ use mathlib.Core.Path.{_≡_}
 use mathlib.Core.Bool.{true}
 use native.Mathlib.Omega.{arith}
 use borrow.Author.Tests.{leb-true}
-use Rattle.motor_core.specs.Time.{reading-accepted, timeout-accepted}
-use Rattle.motor_core.specs.declared.time.Instant.{Instant}
-use Rattle.motor_core.specs.declared.time.Duration.{Duration}
-use Rattle.motor_core.proofs.Readings.{between}
+use Rattle.time.specs.Time.{reading-accepted, timeout-accepted}
+use Rattle.time.specs.declared.Instant.{Instant}
+use Rattle.time.specs.declared.Duration.{Duration}
+use Rattle.time.proofs.Readings.{between}
 use Rattle.switch_time.specs.TimeLeft.{deadline-after}
 
 pub deadline-is-sum : (last now : Instant) (timeout : Duration) → reading-accepted last now ≡ true → timeout-accepted timeout ≡ true → deadline-after now timeout .0 ≡ now .0 + timeout .0

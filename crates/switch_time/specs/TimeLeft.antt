@@ -2,9 +2,9 @@
 use Prim.Native.Nat.{ℕ, _+_, _-_, _/_, _^_, min, max}
 use mathlib.Core.Bool.{cond}
 use lib.Dec.{leb}
-use Rattle.motor_core.specs.Time.{millis}
-use Rattle.motor_core.specs.declared.time.Instant.{Instant}
-use Rattle.motor_core.specs.declared.time.Duration.{Duration}
+use Rattle.time.specs.Time.{millis}
+use Rattle.time.specs.declared.Instant.{Instant}
+use Rattle.time.specs.declared.Duration.{Duration}
 use Rattle.run_wait.specs.Wait.{poll-interval}
 use Rattle.switch_time.specs.declared.TimeLeft.{TimeLeft}
 use Rattle.switch_time.specs.declared.TimeLeft.the-variants.{None, Some}

@@ -3,9 +3,9 @@
 ghost use mathlib.Core.Path.{_≡_};
 ghost use Prim.Native.Nat.{_≤_};
 ghost use Rattle.switch_time.specs.TimeLeft as Spec;
-use motor_core::time::Duration;
-use motor_core::time::Instant;
 use run_wait::REGISTER_POLL_INTERVAL;
+use time::Duration;
+use time::Instant;
 
 // In nanoseconds.
 const ENSURE_MODE_REGISTER_READ_TIMEOUT: Duration = Duration(100_000_000);

@@ -1,7 +1,7 @@
 -- `ensure_control_mode` around its writes of the mode: document 01's 'The runs'. Definitions only.
 use Prim.Native.Nat.{ℕ}
-use Rattle.motor_core.specs.declared.time.Instant.{Instant}
-use Rattle.motor_core.specs.declared.time.Duration.{Duration}
+use Rattle.time.specs.declared.Instant.{Instant}
+use Rattle.time.specs.declared.Duration.{Duration}
 use Rattle.protocol_hold.specs.declared.ControlMode.{ControlMode}
 use Rattle.run_write.specs.Write.{first-try}
 use Rattle.run_write.specs.declared.WriteNext.{WriteNext}

@@ -1,9 +1,8 @@
 // `ensure_control_mode` around its writes of the mode: the confirmed write, the settling sleep, and on to
 // the verifying read. `verifies_left` is the number of verifying reads after the next one.
 ghost use mathlib.Core.Path.{_≡_};
+ghost use Rattle.switch_stage.specs.Stage as Stages;
 ghost use Rattle.switch_write.specs.WriteMode as Spec;
-use motor_core::time::Duration;
-use motor_core::time::Instant;
 use protocol_hold::ControlMode;
 use run_write::WriteNext;
 use run_write::first_try;
@@ -18,13 +17,21 @@ use switch_stage::SwitchNext;
 use switch_time::TimeLeft;
 use switch_time::mode_read_cap;
 use switch_time::sleep_up_to_reserving;
+use time::Duration;
+use time::Instant;
 
 const ENSURE_MODE_VERIFY_ATTEMPTS: u8 = 3;
+
+fn goes(progress: Progress, stage: Stage) -> SwitchNext
+    ensures { λ r. ⌜ r ≡ Stages.goes progress stage ⌝ }
+{
+    SwitchNext::Goes(Switch::Begun(progress, stage))
+}
 
 pub fn write_mode(verifies_left: u8, progress: Progress) -> SwitchNext
     ensures { λ r. ⌜ r ≡ Spec.write-mode «verifies_left» progress ⌝ }
 {
-    SwitchNext::Goes(Switch::Begun(progress, Stage::Writing(verifies_left, first_try())))
+    goes(progress, Stage::Writing(verifies_left, first_try()))
 }
 
 // After a step of the preparation: it goes on, or the mode is written.
@@ -32,8 +39,11 @@ pub fn after_prepare(next: PrepareNext) -> SwitchNext
     ensures { λ r. ⌜ r ≡ Spec.after-prepare next ⌝ }
 {
     match next {
-        PrepareNext::Goes(progress, stage) => SwitchNext::Goes(Switch::Begun(progress, stage)),
-        PrepareNext::Ready(progress) => write_mode(ENSURE_MODE_VERIFY_ATTEMPTS - 1, progress),
+        PrepareNext::Goes(progress, stage) => return goes(progress, stage),
+        PrepareNext::Ready(progress) => return write_mode(
+            ENSURE_MODE_VERIFY_ATTEMPTS - 1,
+            progress,
+        ),
     }
 }
 
@@ -42,15 +52,9 @@ pub fn after_mode_write(verifies_left: u8, progress: Progress, next: WriteNext) 
     ensures { λ r. ⌜ r ≡ Spec.after-mode-write «verifies_left» progress next ⌝ }
 {
     match next {
-        WriteNext::Goes(write) => SwitchNext::Goes(Switch::Begun(
-            progress,
-            Stage::Writing(verifies_left, write),
-        )),
-        WriteNext::Written => SwitchNext::Goes(Switch::Begun(
-            progress,
-            Stage::SettleRemaining(verifies_left),
-        )),
-        WriteNext::Failed(failure) => SwitchNext::Failed(failure),
+        WriteNext::Goes(write) => return goes(progress, Stage::Writing(verifies_left, write)),
+        WriteNext::Written => return goes(progress, Stage::SettleRemaining(verifies_left)),
+        WriteNext::Failed(failure) => return SwitchNext::Failed(failure),
     }
 }
 
@@ -59,15 +63,11 @@ pub fn after_finish(verifies_left: u8, progress: Progress, next: FinishNext) -> 
     ensures { λ r. ⌜ r ≡ Spec.after-finish «verifies_left» progress next ⌝ }
 {
     match next {
-        FinishNext::Holds => SwitchNext::Goes(Switch::Begun(
-            progress,
-            Stage::Holding(verifies_left),
-        )),
-        FinishNext::Done => SwitchNext::Goes(Switch::Begun(
-            progress,
-            Stage::Remaining(ModeRead::Verify(verifies_left)),
-        )),
-        FinishNext::Failed(failure) => SwitchNext::Failed(failure),
+        FinishNext::Holds => return goes(progress, Stage::Holding(verifies_left)),
+        FinishNext::Done => {
+            return goes(progress, Stage::Remaining(ModeRead::Verify(verifies_left)));
+        }
+        FinishNext::Failed(failure) => return SwitchNext::Failed(failure),
     }
 }
 
@@ -91,10 +91,7 @@ pub fn settle_sleep(
 {
     let left = sleep_up_to_reserving(progress.deadline, mode_read_cap(timeout), now);
     match left {
-        TimeLeft::None => slept(mode, verifies_left, progress),
-        TimeLeft::Some(length) => SwitchNext::Goes(Switch::Begun(
-            progress,
-            Stage::SettleSleep(verifies_left, length),
-        )),
+        TimeLeft::None => return slept(mode, verifies_left, progress),
+        TimeLeft::Some(length) => return goes(progress, Stage::SettleSleep(verifies_left, length)),
     }
 }

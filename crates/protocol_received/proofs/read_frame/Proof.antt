@@ -1,7 +1,7 @@
 -- `protocol_received::read_frame` meets its contract. Assumes nothing.
 use mathlib.Core.Path.{sym, ap, _∙_}
 use Rattle.protocol_received.specs.declared.Received.the-variants.{Reply, Ack, Feedback}
-use Rattle.protocol_received.specs.Received.{d}
+use Rattle.protocol_frame.specs.Layout.{d}
 use Rattle.protocol_received.specs.declared.Sorted.{Sorted}
 use Rattle.protocol_received.proofs.Sorting.{read-as, sorted-read}
 use borrow.Author.Needs.{needs}

@@ -1,5 +1,8 @@
 -- `protocol_setpoint::float_to_uint` meets its contract. Assumes nothing.
-use Rattle.protocol_frame.specs.Codes.{float-to-uint}
+use mathlib.Core.Path.{_∙_}
+use lib.Ieee.{toUnsigned}
+use Rattle.float.specs.Arithmetic.{_⊖_, _⊗_, _⊘_}
+use Rattle.protocol_codes.specs.Codes.{float-to-uint}
 use borrow.Author.Needs.{needs}
 use Rattle.protocol_setpoint.proofs.float_to_uint.Statement.{statement}
 use Rattle.protocol_setpoint.proofs.float_to_uint.Tie as tie
@@ -15,7 +18,9 @@ as-u32-requires c κs = search needs
 
 returns : tie.Need-returns
 unfolding float-to-uint
-returns c = cc
+returns c =
+    c .as-u32 .ensures
+    ∙ (λ i. toUnsigned 32 ((c .before .before .clamp .ensures i ⊖ c .before .before .before .args .x-min) ⊗ c .before .full-scale .ensures i ⊘ (c .before .before .before .args .x-max ⊖ c .before .before .before .args .x-min)))
 
 pub float-to-uint-spec : {M : Type 1} → statement M
 float-to-uint-spec =

@@ -11,20 +11,20 @@ use Rattle.run_arguments.proofs.write_known.Tie as tie
 enum-told : tie.Need-enum-told
 enum-told c = search needs
 
+returns : tie.Need-returns
+returns c = let a = c .before .before .args in sym (ap (λ x. write-known x (a .data-type) (a .rid) (a .value)) (c .enum-told .given .1))
+
 enum-told-2 : tie.Need-enum-told-2
 enum-told-2 c = search needs
 
 is-of-type-requires : tie.Need-is-of-type-requires
 is-of-type-requires c κs = search needs
 
-returns : tie.Need-returns
-returns c = let a = c .before .before .before .before .args in turned _ _ _ _ (c .before .is-of-type .ensures) (c .if1 .taken) ∙ sym (ap (λ x. write-known x (a .data-type) (a .rid) (a .value)) (c .before .before .enum-told2 .given .1))
+returns-2 : tie.Need-returns-2
+returns-2 c = let a = c .before .before .before .before .args in turned _ _ _ _ (c .before .is-of-type .ensures) (c .if1 .taken) ∙ sym (ap (λ x. write-known x (a .data-type) (a .rid) (a .value)) (c .before .before .enum-told2 .given .1))
 
 first-try-requires : tie.Need-first-try-requires
 first-try-requires c κs = search needs
-
-returns-2 : tie.Need-returns-2
-returns-2 c = let a = c .before .before .args in sym (ap (λ x. write-known x (a .data-type) (a .rid) (a .value)) (c .enum-told .given .1))
 
 returns-3 : tie.Need-returns-3
 returns-3 c = let a = c .before .before .before .before .before .args in ap (λ t. Accepted (WriteRegister (a .rid) (a .value) t)) (c .first-try .ensures) ∙ passed _ _ _ _ (c .before .before .is-of-type .ensures) (c .before .if1 .left) ∙ sym (ap (λ x. write-known x (a .data-type) (a .rid) (a .value)) (c .before .before .before .enum-told2 .given .1))
@@ -34,9 +34,9 @@ write-known-spec =
     tie.close
     (tie.spec
     enum-told
+    returns
     enum-told-2
     is-of-type-requires
-    returns
-    first-try-requires
     returns-2
+    first-try-requires
     returns-3)

@@ -8,23 +8,23 @@ use Rattle.run_step.proofs.after_state.Tie as tie
 enum-known-next : tie.Need-enum-known-next
 enum-known-next c = search needs
 
-enum-known-next-2 : tie.Need-enum-known-next-2
-enum-known-next-2 c = search needs
-
-enum-told : tie.Need-enum-told
-enum-told c = search needs
-
-enum-known-next-3 : tie.Need-enum-known-next-3
-enum-known-next-3 c = search needs
-
 returns : tie.Need-returns
 returns c = sym (ap (after-state (c .before .before .before .args .timeout)) (c .before .next .given .1))
+
+enum-known-next-2 : tie.Need-enum-known-next-2
+enum-known-next-2 c = search needs
 
 returns-2 : tie.Need-returns-2
 returns-2 c = sym (ap (after-state (c .before .before .before .args .timeout)) (c .before .next2 .given .1))
 
+enum-told : tie.Need-enum-told
+enum-told c = search needs
+
 returns-3 : tie.Need-returns-3
 returns-3 c = sym (ap (after-state (c .before .before .args .timeout)) (c .enum-told .given .1))
+
+enum-known-next-3 : tie.Need-enum-known-next-3
+enum-known-next-3 c = search needs
 
 returns-4 : tie.Need-returns-4
 returns-4 c = sym (ap (after-state (c .before .before .before .args .timeout)) (c .before .next3 .given .1))
@@ -34,10 +34,10 @@ after-state-spec =
     tie.close
     (tie.spec
     enum-known-next
-    enum-known-next-2
-    enum-told
-    enum-known-next-3
     returns
+    enum-known-next-2
     returns-2
+    enum-told
     returns-3
+    enum-known-next-3
     returns-4)

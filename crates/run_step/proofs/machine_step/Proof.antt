@@ -14,6 +14,9 @@ get-step-requires c κs = search needs
 after-read-requires : tie.Need-after-read-requires
 after-read-requires c κs = search needs
 
+returns : tie.Need-returns
+returns c = let a = c .before .before .before .before .before .args in c .after-read .ensures ∙ ap (after-read _ _ _) (c .before .get-step .ensures) ∙ sym (ap (λ m. machine-step (a .latest) (a .entry) m (a .answer)) (c .before .before .before .machine .given .1))
+
 enum-known-machine-2 : tie.Need-enum-known-machine-2
 enum-known-machine-2 c = search needs
 
@@ -22,6 +25,9 @@ write-step-requires c κs = search needs
 
 after-write-requires : tie.Need-after-write-requires
 after-write-requires c κs = search needs
+
+returns-2 : tie.Need-returns-2
+returns-2 c = let a = c .before .before .before .before .before .args in c .after-write .ensures ∙ ap (after-write _ _) (c .before .write-step .ensures) ∙ sym (ap (λ m. machine-step (a .latest) (a .entry) m (a .answer)) (c .before .before .before .machine2 .given .1))
 
 enum-known-machine-3 : tie.Need-enum-known-machine-3
 enum-known-machine-3 c = search needs
@@ -32,6 +38,9 @@ state-step-requires c κs = search needs
 after-state-requires : tie.Need-after-state-requires
 after-state-requires c κs = search needs
 
+returns-3 : tie.Need-returns-3
+returns-3 c = let a = c .before .before .before .before .before .args in c .after-state .ensures ∙ ap (after-state _) (c .before .state-step .ensures) ∙ sym (ap (λ m. machine-step (a .latest) (a .entry) m (a .answer)) (c .before .before .before .machine3 .given .1))
+
 enum-known-machine-4 : tie.Need-enum-known-machine-4
 enum-known-machine-4 c = search needs
 
@@ -41,6 +50,9 @@ store-step-requires c κs = search needs
 after-store-requires : tie.Need-after-store-requires
 after-store-requires c κs = search needs
 
+returns-4 : tie.Need-returns-4
+returns-4 c = let a = c .before .before .before .before .before .args in c .after-store .ensures ∙ ap after-store (c .before .store-step .ensures) ∙ sym (ap (λ m. machine-step (a .latest) (a .entry) m (a .answer)) (c .before .before .before .machine4 .given .1))
+
 enum-known-machine-5 : tie.Need-enum-known-machine-5
 enum-known-machine-5 c = search needs
 
@@ -49,18 +61,6 @@ switch-step-requires c κs = search needs
 
 after-switch-requires : tie.Need-after-switch-requires
 after-switch-requires c κs = search needs
-
-returns : tie.Need-returns
-returns c = let a = c .before .before .before .before .before .args in c .after-read .ensures ∙ ap (after-read _ _ _) (c .before .get-step .ensures) ∙ sym (ap (λ m. machine-step (a .latest) (a .entry) m (a .answer)) (c .before .before .before .machine .given .1))
-
-returns-2 : tie.Need-returns-2
-returns-2 c = let a = c .before .before .before .before .before .args in c .after-write .ensures ∙ ap (after-write _ _) (c .before .write-step .ensures) ∙ sym (ap (λ m. machine-step (a .latest) (a .entry) m (a .answer)) (c .before .before .before .machine2 .given .1))
-
-returns-3 : tie.Need-returns-3
-returns-3 c = let a = c .before .before .before .before .before .args in c .after-state .ensures ∙ ap (after-state _) (c .before .state-step .ensures) ∙ sym (ap (λ m. machine-step (a .latest) (a .entry) m (a .answer)) (c .before .before .before .machine3 .given .1))
-
-returns-4 : tie.Need-returns-4
-returns-4 c = let a = c .before .before .before .before .before .args in c .after-store .ensures ∙ ap after-store (c .before .store-step .ensures) ∙ sym (ap (λ m. machine-step (a .latest) (a .entry) m (a .answer)) (c .before .before .before .machine4 .given .1))
 
 returns-5 : tie.Need-returns-5
 returns-5 c = let a = c .before .before .before .before .before .args in c .after-switch .ensures ∙ ap (after-switch _ _) (c .before .switch-step .ensures) ∙ sym (ap (λ m. machine-step (a .latest) (a .entry) m (a .answer)) (c .before .before .before .machine5 .given .1))
@@ -72,20 +72,20 @@ machine-step-spec =
     enum-known-machine
     get-step-requires
     after-read-requires
+    returns
     enum-known-machine-2
     write-step-requires
     after-write-requires
+    returns-2
     enum-known-machine-3
     state-step-requires
     after-state-requires
+    returns-3
     enum-known-machine-4
     store-step-requires
     after-store-requires
+    returns-4
     enum-known-machine-5
     switch-step-requires
     after-switch-requires
-    returns
-    returns-2
-    returns-3
-    returns-4
     returns-5)

@@ -6,7 +6,8 @@ use Rattle.state_cache.specs.Cache.{slot-of, slot-place}
 use Rattle.state_cache.specs.declared.Entry.{Entry}
 use Rattle.state_cache.proofs.Places.{slot-below}
 use Rattle.session.proofs.Slots.{replies-length, acks-length}
-use Rattle.session_answer.specs.Answer.{entry-at, answer-step, with-step, answer-run}
+use Rattle.session_step.specs.Parts.{answer-step}
+use Rattle.session_answer.specs.Answer.{entry-at, with-step, answer-run}
 use Rattle.session_answer.specs.Slots.{entry-between}
 use Rattle.session_answer.proofs.Look.{found-between}
 use borrow.Author.Needs.{needs}
@@ -44,11 +45,11 @@ returns : tie.Need-returns
 unfolding answer-run
 returns c =
     let step = c .before .before in
-    let between = step .before in
-    let at = between .before .before .before in
+    let between = step .before .before in
+    let at = between .before .before .before .before in
     let place = at .before .before in
-    let start = place .before .before .before in
-    let s = start .args .session in
+    let start = place .before .before in
+    let s = start .args .t1 in
     ap (with-step s)
     (step .answer-step .ensures
     ∙ ap (λ (e : Entry). answer-step (s .head) e (s .run) (start .args .answer))

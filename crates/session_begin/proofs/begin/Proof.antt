@@ -9,7 +9,7 @@ start-step-requires : tie.Need-start-step-requires
 start-step-requires c κs = search needs
 
 returns : tie.Need-returns
-returns c = ap (with-opened (c .before .before .before .before .args .session)) (c .before .start-step .ensures)
+returns c = ap (with-opened (c .before .before .args .session)) (c .before .start-step .ensures)
 
 pub begin-spec : {M : Type 1} → statement M
 begin-spec = tie.close (tie.spec start-step-requires returns)

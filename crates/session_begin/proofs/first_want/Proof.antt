@@ -1,9 +1,9 @@
 -- `session_begin::first_want` meets its contract. Assumes nothing.
 use mathlib.Core.Path.{sym, ap, _∙_}
 use Rattle.session.specs.declared.Phase.the-variants.{Open}
-use Rattle.session_answer.specs.Answer.{caller-want}
-use Rattle.session_answer.specs.declared.Told.the-variants as Told
-use Rattle.session_answer.specs.declared.Wanted.{Wanted}
+use Rattle.session_step.specs.Parts.{caller-want}
+use Rattle.session_step.specs.declared.Told.the-variants as Told
+use Rattle.session_step.specs.declared.Wanted.{Wanted}
 use Rattle.session_begin.specs.Begin.{opened, first-want}
 use borrow.Author.Needs.{needs}
 use Rattle.session_begin.proofs.first_want.Statement.{statement}

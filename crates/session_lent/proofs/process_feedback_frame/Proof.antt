@@ -44,7 +44,7 @@ use denote.Triple.Table.{entered, cited}
 use denote.Triple.Walked.{says, Stays, stay-ref, stay-none, walkOf, AllGo, goes-none, goes-ref, Walks, ends-at, walked, walk-meets}
 use denote.Exit.{yes}
 use Rattle.motor_core.specs.declared.bus.CanFrame.{CanFrame}
-use Rattle.motor_core.specs.declared.time.Instant.{Instant}
+use Rattle.time.specs.declared.Instant.{Instant}
 use Rattle.state_cache.specs.Cache.{empty}
 use Rattle.state_cache.specs.declared.Slot.{Slot}
 use Rattle.state_cache.proofs.Places.{slot-below}
@@ -58,8 +58,8 @@ use Rattle.session_lent.specs.Lent.{frame-place, parts-step, parts-at, p
 use Rattle.session_lent.specs.declared.Parts.{Parts}
 use Rattle.motor_core.proofs.bus.CanFrame as K
 use Rattle.motor_core.proofs.bus.CanFrame.Laws as K′
-use Rattle.motor_core.proofs.time.Instant as I
-use Rattle.motor_core.proofs.time.Instant.Laws as I′
+use Rattle.time.proofs.Instant as I
+use Rattle.time.proofs.Instant.Laws as I′
 use Rattle.state_cache.proofs.Slot as S
 use Rattle.state_cache.proofs.Slot.Laws as S′
 use Rattle.session.proofs.Head as D

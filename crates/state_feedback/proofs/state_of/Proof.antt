@@ -2,7 +2,7 @@
 use Prim.Native.Nat.{ℕ}
 use mathlib.Core.Path.{ap}
 use Rattle.protocol_status.specs.declared.StatusName.{StatusName}
-use Rattle.protocol_received.specs.declared.SensorFeedback.{SensorFeedback}
+use Rattle.protocol_feedback.specs.declared.SensorFeedback.{SensorFeedback}
 use Rattle.state_feedback.specs.declared.MotorFeedbackState.{MotorFeedbackState}
 use borrow.Author.Needs.{needs}
 use Rattle.state_feedback.proofs.state_of.Statement.{statement}

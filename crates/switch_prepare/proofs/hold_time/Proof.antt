@@ -18,14 +18,17 @@ enum-told c = search needs
 clear-requires : tie.Need-clear-requires
 clear-requires c κs = search needs
 
-enum-known-left : tie.Need-enum-known-left
-enum-known-left c = search needs
-
 returns : tie.Need-returns
 returns c = let a = c .before .before .before .before .before .args in let f = hold-timed (a .progress) in c .clear .ensures ∙ sym (ap f (c .before .enum-told .given .1)) ∙ ap f (c .before .before .before .capped-remaining .ensures ∙ ap (λ cap. capped-remaining (a .progress .deadline) cap (a .now)) (c .before .before .before .before .hold-read-cap .ensures))
 
+enum-known-left : tie.Need-enum-known-left
+enum-known-left c = search needs
+
+reading-position-requires : tie.Need-reading-position-requires
+reading-position-requires c κs = search needs
+
 returns-2 : tie.Need-returns-2
-returns-2 c = let a = c .before .before .before .before .before .args in let f = hold-timed (a .progress) in sym (ap f (c .before .left .given .1)) ∙ ap f (c .before .before .before .capped-remaining .ensures ∙ ap (λ cap. capped-remaining (a .progress .deadline) cap (a .now)) (c .before .before .before .before .hold-read-cap .ensures))
+returns-2 c = let a = c .before .before .before .before .before .before .args in let f = hold-timed (a .progress) in c .reading-position .ensures ∙ sym (ap f (c .before .before .left .given .1)) ∙ ap f (c .before .before .before .before .capped-remaining .ensures ∙ ap (λ cap. capped-remaining (a .progress .deadline) cap (a .now)) (c .before .before .before .before .before .hold-read-cap .ensures))
 
 pub hold-time-spec : {M : Type 1} → statement M
 hold-time-spec =
@@ -35,6 +38,7 @@ hold-time-spec =
     capped-remaining-requires
     enum-told
     clear-requires
-    enum-known-left
     returns
+    enum-known-left
+    reading-position-requires
     returns-2)

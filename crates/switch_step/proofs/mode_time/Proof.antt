@@ -15,14 +15,20 @@ capped-remaining-requires c κs = search needs
 enum-told : tie.Need-enum-told
 enum-told c = search needs
 
+given-up-requires : tie.Need-given-up-requires
+given-up-requires c κs = search needs
+
+returns : tie.Need-returns
+returns c = let a = c .before .before .before .before .before .args in let f = mode-timed (a .which) (a .progress) in c .given-up .ensures ∙ sym (ap f (c .before .enum-told .given .1)) ∙ ap f (c .before .before .before .capped-remaining .ensures ∙ ap (λ cap. capped-remaining (a .progress .deadline) cap (a .now)) (c .before .before .before .before .mode-read-cap .ensures))
+
 enum-known-left : tie.Need-enum-known-left
 enum-known-left c = search needs
 
-returns : tie.Need-returns
-returns c = let a = c .before .before .before .before .args in let f = mode-timed (a .which) (a .progress) in sym (ap f (c .enum-told .given .1)) ∙ ap f (c .before .before .capped-remaining .ensures ∙ ap (λ cap. capped-remaining (a .progress .deadline) cap (a .now)) (c .before .before .before .mode-read-cap .ensures))
+reads-mode-requires : tie.Need-reads-mode-requires
+reads-mode-requires c κs = search needs
 
 returns-2 : tie.Need-returns-2
-returns-2 c = let a = c .before .before .before .before .before .args in let f = mode-timed (a .which) (a .progress) in sym (ap f (c .before .left .given .1)) ∙ ap f (c .before .before .before .capped-remaining .ensures ∙ ap (λ cap. capped-remaining (a .progress .deadline) cap (a .now)) (c .before .before .before .before .mode-read-cap .ensures))
+returns-2 c = let a = c .before .before .before .before .before .before .args in let f = mode-timed (a .which) (a .progress) in c .reads-mode .ensures ∙ sym (ap f (c .before .before .left .given .1)) ∙ ap f (c .before .before .before .before .capped-remaining .ensures ∙ ap (λ cap. capped-remaining (a .progress .deadline) cap (a .now)) (c .before .before .before .before .before .mode-read-cap .ensures))
 
 pub mode-time-spec : {M : Type 1} → statement M
 mode-time-spec =
@@ -31,6 +37,8 @@ mode-time-spec =
     mode-read-cap-requires
     capped-remaining-requires
     enum-told
-    enum-known-left
+    given-up-requires
     returns
+    enum-known-left
+    reads-mode-requires
     returns-2)

@@ -23,20 +23,23 @@ prepare-requires c κs = search needs
 after-prepare-requires : tie.Need-after-prepare-requires
 after-prepare-requires c κs = search needs
 
+returns : tie.Need-returns
+returns c = let a = c .before .before .before .before .args in c .after-prepare .ensures ∙ ap after-prepare (c .before .prepare .ensures) ∙ sym (ap (λ w. not-yet (a .mode) w (a .progress)) (c .before .before .enum-told .given .1))
+
 enum-known-which : tie.Need-enum-known-which
 enum-known-which c = search needs
 
-returns : tie.Need-returns
-returns c = let a = c .before .before .before .before .args in sym (ap (λ (n : ℕ). not-yet (a .mode) (Verify n) (a .progress)) (c .if1 .taken)) ∙ sym (ap (λ w. not-yet (a .mode) w (a .progress)) (c .before .before .which .given .1))
+given-up-requires : tie.Need-given-up-requires
+given-up-requires c κs = search needs
+
+returns-2 : tie.Need-returns-2
+returns-2 c = let a = c .before .before .before .before .before .args in c .given-up .ensures ∙ sym (ap (λ (n : ℕ). not-yet (a .mode) (Verify n) (a .progress)) (c .before .if1 .taken)) ∙ sym (ap (λ w. not-yet (a .mode) w (a .progress)) (c .before .before .before .which .given .1))
 
 sub-write-mode : tie.Need-sub-write-mode
 sub-write-mode c = search needs
 
 write-mode-requires : tie.Need-write-mode-requires
 write-mode-requires c κs = search needs
-
-returns-2 : tie.Need-returns-2
-returns-2 c = let a = c .before .before .before .before .args in c .after-prepare .ensures ∙ ap after-prepare (c .before .prepare .ensures) ∙ sym (ap (λ w. not-yet (a .mode) w (a .progress)) (c .before .before .enum-told .given .1))
 
 returns-3 : tie.Need-returns-3
 returns-3 c = let a = c .before .before .before .before .before .args in c .write-mode .ensures ∙ one-less (a .mode) _ (a .progress) (c .before .if1 .left) ∙ sym (ap (λ w. not-yet (a .mode) w (a .progress)) (c .before .before .before .which .given .1))
@@ -48,9 +51,10 @@ not-yet-spec =
     enum-told
     prepare-requires
     after-prepare-requires
-    enum-known-which
     returns
+    enum-known-which
+    given-up-requires
+    returns-2
     sub-write-mode
     write-mode-requires
-    returns-2
     returns-3)

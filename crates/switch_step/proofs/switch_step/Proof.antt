@@ -1,10 +1,7 @@
 -- `switch_step::switch_step` meets its contract. Assumes nothing.
 use mathlib.Core.Path.{sym, ap, _∙_}
 use Rattle.switch_time.specs.TimeLeft.{deadline-after}
-use Rattle.switch_stage.specs.Stage.{goes}
-use Rattle.switch_step.specs.Switch.{first-progress, switch-step}
-use Rattle.switch_stage.specs.declared.ModeRead.the-variants.{First}
-use Rattle.switch_stage.specs.declared.Stage.the-variants.{Remaining}
+use Rattle.switch_step.specs.Switch.{started, switch-step}
 use borrow.Author.Needs.{needs}
 use Rattle.switch_step.proofs.switch_step.Statement.{statement}
 use Rattle.switch_step.proofs.switch_step.Tie as tie
@@ -18,17 +15,17 @@ reading-of-requires c κs = search needs
 deadline-after-requires : tie.Need-deadline-after-requires
 deadline-after-requires c κs = search needs
 
-first-progress-requires : tie.Need-first-progress-requires
-first-progress-requires c κs = search needs
+started-requires : tie.Need-started-requires
+started-requires c κs = search needs
+
+returns : tie.Need-returns
+returns c = let a = c .before .before .before .before .before .args in c .started .ensures ∙ ap started (c .before .deadline-after .ensures ∙ ap (λ t. deadline-after t (a .timeout)) (c .before .before .reading-of .ensures)) ∙ sym (ap (λ s. switch-step (a .mode) (a .timeout) (a .entry) s (a .answer)) (c .before .before .before .enum-told .given .1))
 
 enum-known-switch : tie.Need-enum-known-switch
 enum-known-switch c = search needs
 
 stage-step-requires : tie.Need-stage-step-requires
 stage-step-requires c κs = search needs
-
-returns : tie.Need-returns
-returns c = let a = c .before .before .before .before .before .args in ap (λ p. goes p (Remaining First)) (c .first-progress .ensures ∙ ap first-progress (c .before .deadline-after .ensures ∙ ap (λ t. deadline-after t (a .timeout)) (c .before .before .reading-of .ensures))) ∙ sym (ap (λ s. switch-step (a .mode) (a .timeout) (a .entry) s (a .answer)) (c .before .before .before .enum-told .given .1))
 
 returns-2 : tie.Need-returns-2
 returns-2 c = let a = c .before .before .before .before .args in c .stage-step .ensures ∙ sym (ap (λ s. switch-step (a .mode) (a .timeout) (a .entry) s (a .answer)) (c .before .before .switch .given .1))
@@ -40,8 +37,8 @@ switch-step-spec =
     enum-told
     reading-of-requires
     deadline-after-requires
-    first-progress-requires
+    started-requires
+    returns
     enum-known-switch
     stage-step-requires
-    returns
     returns-2)

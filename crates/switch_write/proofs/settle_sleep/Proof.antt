@@ -18,14 +18,17 @@ enum-told c = search needs
 slept-requires : tie.Need-slept-requires
 slept-requires c κs = search needs
 
-enum-known-left : tie.Need-enum-known-left
-enum-known-left c = search needs
-
 returns : tie.Need-returns
 returns c = let a = c .before .before .before .before .before .args in let f = settled (a .mode) (a .verifies-left) (a .progress) in c .slept .ensures ∙ sym (ap f (c .before .enum-told .given .1)) ∙ ap f (c .before .before .before .sleep-up-to-reserving .ensures ∙ ap (λ cap. sleep-up-to-reserving (a .progress .deadline) cap (a .now)) (c .before .before .before .before .mode-read-cap .ensures))
 
+enum-known-left : tie.Need-enum-known-left
+enum-known-left c = search needs
+
+goes-requires : tie.Need-goes-requires
+goes-requires c κs = search needs
+
 returns-2 : tie.Need-returns-2
-returns-2 c = let a = c .before .before .before .before .before .args in let f = settled (a .mode) (a .verifies-left) (a .progress) in sym (ap f (c .before .left .given .1)) ∙ ap f (c .before .before .before .sleep-up-to-reserving .ensures ∙ ap (λ cap. sleep-up-to-reserving (a .progress .deadline) cap (a .now)) (c .before .before .before .before .mode-read-cap .ensures))
+returns-2 c = let a = c .before .before .before .before .before .before .args in let f = settled (a .mode) (a .verifies-left) (a .progress) in c .goes .ensures ∙ sym (ap f (c .before .before .left .given .1)) ∙ ap f (c .before .before .before .before .sleep-up-to-reserving .ensures ∙ ap (λ cap. sleep-up-to-reserving (a .progress .deadline) cap (a .now)) (c .before .before .before .before .before .mode-read-cap .ensures))
 
 pub settle-sleep-spec : {M : Type 1} → statement M
 settle-sleep-spec =
@@ -35,6 +38,7 @@ settle-sleep-spec =
     sleep-up-to-reserving-requires
     enum-told
     slept-requires
-    enum-known-left
     returns
+    enum-known-left
+    goes-requires
     returns-2)

@@ -20,14 +20,14 @@ told-name found told motor feedback models name e h = ap (λ (l : ModelLimits). 
 model-limits-requires : tie.Need-model-limits-requires
 model-limits-requires c κs = search needs
 
-enum-known-found : tie.Need-enum-known-found
-enum-known-found c = search needs
+enum-known-number : tie.Need-enum-known-number
+enum-known-number c = search needs
 
 refused-requires : tie.Need-refused-requires
 refused-requires c κs = search needs
 
-enum-known-found-2 : tie.Need-enum-known-found-2
-enum-known-found-2 c = search needs
+enum-known-maxima : tie.Need-enum-known-maxima
+enum-known-maxima c = search needs
 
 from-limits-requires : tie.Need-from-limits-requires
 from-limits-requires c κs = search needs
@@ -36,22 +36,22 @@ returns : tie.Need-returns
 returns c =
     let told = c .before .before in
     let a = told .before .before .before .before .args in
-    c .refused .ensures ∙ told-name _ _ (a .motor-id) (a .feedback-id) (models-of (a .list)) (now (a .name)) (told .before .before .model-limits .ensures) (told .found .given .1)
+    c .refused .ensures ∙ told-name _ _ (a .motor-id) (a .feedback-id) (models-of (a .list)) (now (a .name)) (told .before .before .model-limits .ensures) (told .number .given .1)
 
 returns-2 : tie.Need-returns-2
 returns-2 c =
     let told = c .before .before in
     let a = told .before .before .before .before .args in
-    c .from-limits .ensures ∙ told-name _ _ (a .motor-id) (a .feedback-id) (models-of (a .list)) (now (a .name)) (told .before .before .model-limits .ensures) (told .found2 .given .1)
+    c .from-limits .ensures ∙ told-name _ _ (a .motor-id) (a .feedback-id) (models-of (a .list)) (now (a .name)) (told .before .before .model-limits .ensures) (told .maxima .given .1)
 
 pub from-model-spec : {M : Type 1} → statement M
 from-model-spec =
     tie.close
     (tie.spec
     model-limits-requires
-    enum-known-found
+    enum-known-number
     refused-requires
-    enum-known-found-2
+    enum-known-maxima
     from-limits-requires
     returns
     returns-2)

@@ -25,8 +25,8 @@ data-at-requires c κs = search needs
 frame-of-requires : tie.Need-frame-of-requires Inv-loop μ-loop
 frame-of-requires c κs = search needs
 
-process-feedback-frame-requires : tie.Need-process-feedback-frame-requires Inv-loop μ-loop
-process-feedback-frame-requires c κs = search needs
+take-frame-requires : tie.Need-take-frame-requires Inv-loop μ-loop
+take-frame-requires c κs = search needs
 
 add-k : tie.Need-add-k Inv-loop μ-loop
 add-k c = search needs
@@ -54,7 +54,7 @@ take-spec =
     mul-data-at
     data-at-requires
     frame-of-requires
-    process-feedback-frame-requires
+    take-frame-requires
     add-k
     loop-less
     loop-again
