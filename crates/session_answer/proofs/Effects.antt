@@ -1,7 +1,7 @@
 -- What an answer does to a session, and what it leaves alone. Assumes nothing.
 use Prim.Native.Nat.{ℕ, _≤_, _^_}
-use mathlib.Core.Path.{_≡_, refl, sym, ap, _∙_, subst}
-use mathlib.Core.Bool.{Bool, true, false, cond}
+use mathlib.Core.Path.{_≡_, refl, ap, _∙_, subst}
+use mathlib.Core.Bool.{Bool, true, cond}
 use native.Mathlib.Nat.{le-refl}
 use Rattle.motor_core.specs.Error as Error
 use Rattle.time.specs.declared.Instant.{Instant}
@@ -21,13 +21,14 @@ use Rattle.run_step.specs.declared.Next.the-variants.{Goes, Ends}
 use Rattle.session.specs.Session.{closed, with-last, with-head, with-run}
 use Rattle.session.specs.declared.Head.{Head}
 use Rattle.session.specs.declared.Phase.{Phase}
-use Rattle.session.specs.declared.Phase.the-variants.{Closed, Open}
+use Rattle.session.specs.declared.Phase.the-variants.{Open}
 use Rattle.session.specs.declared.Run.{Run}
 use Rattle.session.specs.declared.Session.{Session}
 use Rattle.session_answer.specs.Effects.{Follows, Told-truly, Unchanged}
-use Rattle.session_step.specs.Parts.{caller-want, answer-accepted, with-reading, stepped, refused, answer-by}
+use Rattle.session_step.specs.Parts.{answer-accepted, with-reading, stepped, refused, answer-by}
 use Rattle.session_answer.specs.Answer.{phase-place, entry-at, with-step, answer-run}
 use Rattle.session_step.specs.declared.AnswerStep.{AnswerStep}
+use Rattle.session_step.proofs.Cases.{accepted-by, step-cases}
 use Rattle.session_step.specs.declared.Told.{Told}
 use Rattle.session_step.specs.declared.Told.the-variants.{Refused}
 use Rattle.session_answer.specs.declared.AfterCall.{AfterCall}
@@ -46,26 +47,14 @@ entry s = entry-at (s .replies) (s .acks) (phase-place (s .run .phase))
 
 module _ (s : Session) (a : Answer) where
   abbrev pub taken-by : Machine → AnswerStep
-  taken-by m = stepped (with-reading (s .head) a) (machine-step (s .head .feedback .latest) (entry s) m a)
+  taken-by m = accepted-by (s .head) (entry s) (s .run) a m
 
   abbrev refused-with : ℕ → AnswerStep
   refused-with n = refused (s .head) (s .run) n
 
   pub answer-cases : (P : AfterCall → Type 0) → ((n : ℕ) → P (record { session = s; told = Refused n })) → ((m : Machine) → s .run .phase ≡ Open m → fits (machine-want m) a ≡ true → answer-accepted (s .head .last) a ≡ true → P (with-step s (taken-by m))) → P (answer-run s a)
   unfolding answer-run
-  answer-cases P no-turn turn = by (s .run .phase) refl
-    where
-      read : (m : Machine) → s .run .phase ≡ Open m → fits (machine-want m) a ≡ true → (b : Bool) → answer-accepted (s .head .last) a ≡ b → P (with-step s (cond b (taken-by m) (refused-with Error.reading)))
-      read m o f true e = turn m o f e
-      read m o f false e = no-turn Error.reading
-
-      fit : (m : Machine) → s .run .phase ≡ Open m → (b : Bool) → fits (machine-want m) a ≡ b → P (with-step s (cond b (cond (answer-accepted (s .head .last) a) (taken-by m) (refused-with Error.reading)) (refused-with Error.not-wanted)))
-      fit m o true e = read m o e (answer-accepted (s .head .last) a) refl
-      fit m o false e = no-turn Error.not-wanted
-
-      by : (p : Phase) → s .run .phase ≡ p → P (with-step s (answer-by p (s .head) (entry s) (s .run) a))
-      by Closed e = no-turn Error.not-wanted
-      by (Open m) e = fit m e (fits (machine-want m) a) refl
+  answer-cases P no-turn turn = step-cases (s .head) (entry s) (s .run) a (λ step. P (with-step s step)) no-turn turn
 
   -- one that is accepted steps the machine, with the record and the entry that are there
   pub answer-taken : (m : Machine) → s .run .phase ≡ Open m → fits (machine-want m) a ≡ true → answer-accepted (s .head .last) a ≡ true → answer-run s a ≡ with-step s (taken-by m)
