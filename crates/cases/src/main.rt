@@ -1,5 +1,7 @@
 // Bench cases that are run and not proved, and what no line of the script reaches. Each line is a name
 // and what came out.
+#![tactic(auto)]
+
 mod running;
 mod sessions;
 

@@ -31,7 +31,7 @@ const POSITION_4FF: u64 = 0x1f00_3350_ff04_330a;
 const POSITION_6FF: u64 = 0x1f00_3350_ff06_330a;
 
 // How a run begins: the calls on register 10, and the switch to a mode.
-#[derive(Drop)]
+#[derive(Clone, Copy)]
 enum Begin {
     GetU32(Duration),
     GetF32(Duration),

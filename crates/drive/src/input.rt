@@ -6,7 +6,7 @@ use script_words::index_of;
 // A line, from `from` to `end`, and the bytes that are read, from `next` to `filled`. Either may be
 // the rest of a line that is too long. Where no whole line is left (`is_dry`) the line is empty, and
 // more is to be read. Lines are counted from 1.
-#[derive(Drop)]
+#[derive(Clone, Copy)]
 pub(crate) struct Place {
     from: usize,
     end: usize,
@@ -21,7 +21,7 @@ pub(crate) struct Place {
 
 // An unfinished line: so many bytes at the front of the input, or one that is too long, of which
 // none are kept.
-#[derive(Drop)]
+#[derive(Clone, Copy)]
 struct Unfinished {
     held: usize,
     is_long: bool,

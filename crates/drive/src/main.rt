@@ -1,6 +1,8 @@
 // Reads the line script on standard input, and writes a line for each call to standard output. One
 // session is in use at a time. On standard error it says why a line is bad, and `help` lists
 // the calls.
+#![tactic(auto)]
+
 mod answer;
 mod commands;
 mod fields;

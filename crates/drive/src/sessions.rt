@@ -17,7 +17,7 @@ use text::put;
 use time::Instant;
 
 // The session in use, once one has started, and where the output goes on.
-#[derive(Drop)]
+#[derive(Clone, Copy)]
 pub(crate) struct State {
     pub(crate) session: Session,
     pub(crate) is_started: bool,

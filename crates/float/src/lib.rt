@@ -1,12 +1,14 @@
 // f32 helpers that the language lacks: bit patterns with their NaNs, clamping, and `as` casts to
 // whole numbers, worked out from the bits. Each is total.
+#![tactic(auto)]
+
 ghost use Rattle.std.specs.Prelude.{◌≡◌, ◌-◌, ◌≤◌, min};
 ghost use Rattle.std.specs.Float.Ieee as Ieee;
 ghost use Rattle.std.specs.Float.{binary32};
 ghost use Rattle.float.specs.Float.{clip};
 
 // The 32 bits of a float that travels unchanged: a NaN keeps its payload.
-#[derive(Drop)]
+#[derive(Clone, Copy)]
 pub struct F32Bits(pub u32);
 
 // Rust's `f32::from_bits`. There is one NaN here, which every pattern of a NaN gives.

@@ -1,4 +1,6 @@
 // The square root, correctly rounded, worked out from the bits in whole numbers.
+#![tactic(auto)]
+
 ghost use Rattle.std.specs.Prelude.{◌≡◌, ◌+◌, ◌*◌, ◌^◌, ◌<◌, ◌≤◌};
 ghost use Rattle.float_root.specs.Root as Spec;
 
@@ -46,7 +48,7 @@ fn rounded_root(m: u64, k: u32) -> f32
 }
 
 // m * 4 ^ k
-#[derive(Drop)]
+#[derive(Clone, Copy)]
 struct Scaled {
     m: u64,
     k: u32,

@@ -1,4 +1,6 @@
 // The built-in list of models.
+#![tactic(auto)]
+
 ghost use Rattle.std.specs.Prelude.{◌≡◌};
 ghost use Rattle.model_damiao.specs.Damiao.{damiao_models, list_of};
 

@@ -1,4 +1,6 @@
 // A list of models, and a model's limits by its name.
+#![tactic(auto)]
+
 ghost use Rattle.std.specs.Prelude.{◌≡◌, min, []};
 ghost use Rattle.model_list.specs.Counted.{model_places, models_of, names_of};
 ghost use Rattle.model_list.specs.Models.{limits_by_name};
@@ -10,34 +12,34 @@ use motor_core::name::{Name, spells};
 pub const MODEL_PLACES: usize = 16;
 
 // The maxima of position, velocity and torque.
-#[derive(Drop)]
+#[derive(Clone, Copy)]
 pub struct Maxima {
     pub p_max: f32,
     pub v_max: f32,
     pub t_max: f32,
 }
 
-#[derive(Drop)]
+#[derive(Clone, Copy)]
 pub struct MotorModelSpec {
     pub model: Name,
     pub maxima: Maxima,
 }
 
 // The first `count` are the list's models.
-#[derive(Drop)]
+#[derive(Clone, Copy)]
 pub struct ModelList {
     pub models: [MotorModelSpec; MODEL_PLACES],
     pub count: u8,
 }
 
 // The first `count` are the names; the places after them are empty.
-#[derive(Drop)]
+#[derive(Clone, Copy)]
 pub struct Names {
     pub names: [Name; MODEL_PLACES],
     pub count: u8,
 }
 
-#[derive(Drop)]
+#[derive(Clone, Copy)]
 pub enum ModelLimits {
     Limits(Maxima),
     Refused(u8),

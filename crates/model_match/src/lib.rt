@@ -1,5 +1,7 @@
 // The models whose limits match a query: each of the three within the tolerance. The list is handed in
 // as a value.
+#![tactic(auto)]
+
 ghost use Rattle.std.specs.Prelude.{◌≡◌, cond, ◌&&◌, min, ltb, take};
 ghost use Rattle.model_list.specs.Counted.{model_places, names_of};
 ghost use Rattle.model_match.specs.Matching as Spec;

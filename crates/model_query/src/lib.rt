@@ -1,4 +1,6 @@
 // A query of the model list: whether it is accepted, and the answer to it, names or a refusal.
+#![tactic(auto)]
+
 ghost use Rattle.std.specs.Prelude.{◌≡◌};
 ghost use Rattle.model_query.specs.Query as Spec;
 
@@ -6,21 +8,21 @@ use model_list::Names;
 use motor_core::error::QUERY;
 
 // A position, a velocity and a torque, to be compared with the maxima of each model.
-#[derive(Drop)]
+#[derive(Clone, Copy)]
 pub struct Query {
     pub p: f32,
     pub v: f32,
     pub t: f32,
 }
 
-#[derive(Drop)]
+#[derive(Clone, Copy)]
 pub enum QueryOutcome {
     Listed,
     Refused(u8),
 }
 
 // A refusal has no names beside it.
-#[derive(Drop)]
+#[derive(Clone, Copy)]
 pub struct Listing {
     pub outcome: QueryOutcome,
     pub names: Names,

@@ -1,4 +1,6 @@
 // Models' names as they are shown to people.
+#![tactic(auto)]
+
 ghost use Rattle.std.specs.Prelude.{◌≡◌, ◌<◌, []};
 ghost use Rattle.model_list.specs.Counted.{model_places, held, names_of};
 ghost use Rattle.model_shown.specs.Display as Spec;

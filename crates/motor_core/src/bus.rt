@@ -2,7 +2,7 @@
 ghost use Rattle.std.specs.Prelude.{◌≡◌};
 ghost use Rattle.motor_core.specs.Bus.{motor_id_accepted};
 
-#[derive(Drop)]
+#[derive(Clone, Copy)]
 pub struct CanFrame {
     pub arbitration_id: u32,
     pub data: [u8; 8],

@@ -4,7 +4,7 @@ ghost use Rattle.motor_core.specs.Model.{limit_accepted, limits_of};
 
 use crate::error::LIMIT;
 
-#[derive(Drop)]
+#[derive(Clone, Copy)]
 pub struct PvTLimits {
     pub p_min: f32,
     pub p_max: f32,
@@ -14,7 +14,7 @@ pub struct PvTLimits {
     pub t_max: f32,
 }
 
-#[derive(Drop)]
+#[derive(Clone, Copy)]
 pub enum LimitCheck {
     Accepted(PvTLimits),
     Refused(u8),

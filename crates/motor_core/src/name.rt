@@ -6,7 +6,7 @@ ghost use Rattle.motor_core.specs.Name.{spelling};
 use text::same_bytes;
 
 // The first `len` bytes are the name; the others are spaces.
-#[derive(Drop)]
+#[derive(Clone, Copy)]
 pub struct Name {
     pub bytes: [u8; 15],
     pub len: u8,

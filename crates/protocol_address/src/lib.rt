@@ -1,4 +1,6 @@
 // Which received frames may be a motor's.
+#![tactic(auto)]
+
 ghost use Rattle.std.specs.Prelude.{◌≡◌};
 ghost use Rattle.protocol_address.specs.Address.{accepted};
 

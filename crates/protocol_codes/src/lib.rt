@@ -1,9 +1,11 @@
 // The codes that floats are sent as: their widths and largest values.
+#![tactic(auto)]
+
 ghost use Rattle.std.specs.Prelude.{◌≡◌};
 ghost use Rattle.protocol_codes.specs.Codes.{full, bits_in};
 
 // The widths of codes, in bits.
-#[derive(Drop)]
+#[derive(Clone, Copy)]
 pub enum Width {
     Twelve,
     Sixteen,

@@ -1,4 +1,6 @@
 // What a feedback frame says.
+#![tactic(auto)]
+
 ghost use Rattle.std.specs.Prelude.{◌≡◌, ◌+◌, ◌*◌, ◌^◌, ◌<◌};
 ghost use Rattle.float.specs.Arithmetic.{float};
 ghost use Rattle.protocol_codes.specs.Codes.{bits_in, uint_to_float};
@@ -7,7 +9,7 @@ ghost use Rattle.protocol_feedback.specs.Feedback as Spec;
 use motor_core::model::{LimitCheck, PvTLimits};
 use protocol_codes::{Width, full_scale};
 
-#[derive(Drop)]
+#[derive(Clone, Copy)]
 pub struct SensorFeedback {
     pub can_id: u8,
     pub status_code: u8,
@@ -18,7 +20,7 @@ pub struct SensorFeedback {
     pub t_rotor: f32,
 }
 
-#[derive(Drop)]
+#[derive(Clone, Copy)]
 pub enum Decoded {
     Feedback(SensorFeedback),
     Refused(u8),

@@ -1,5 +1,7 @@
 // How frames are made: numbers in the eight data bytes, and the answer to a command. A frame's data
 // is one number of 64 bits, of which d0 is the highest byte.
+#![tactic(auto)]
+
 ghost use Rattle.std.specs.Prelude.{◌≡◌, ◌%◌};
 ghost use Rattle.protocol_frame.specs.Layout.{packed, little_endian, data_bytes};
 ghost use Rattle.protocol_frame.specs.Command as Spec;
@@ -7,7 +9,7 @@ ghost use Rattle.protocol_frame.specs.Command as Spec;
 use motor_core::error::MOTOR_ID;
 
 // A frame's arbitration id and data, or the number of a refusal.
-#[derive(Drop)]
+#[derive(Clone, Copy)]
 pub enum Command {
     Frame(u32, u64),
     Refused(u8),

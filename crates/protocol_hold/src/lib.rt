@@ -1,5 +1,7 @@
 // The control modes, the numbers that register 10 has for them, and the frame of the setpoint that
 // stands still in each.
+#![tactic(auto)]
+
 ghost use Rattle.std.specs.Prelude.{◌≡◌};
 ghost use Rattle.protocol_hold.specs.Mode as Spec;
 
@@ -10,7 +12,7 @@ use protocol_setpoint::{
     pos_vel_id, vel_id,
 };
 
-#[derive(Drop)]
+#[derive(Clone, Copy)]
 pub enum ControlMode {
     Mit,
     PosVel,
@@ -18,7 +20,7 @@ pub enum ControlMode {
     ForcePos,
 }
 
-#[derive(Drop)]
+#[derive(Clone, Copy)]
 pub enum ModeCheck {
     Unknown,
     Known(ControlMode),

@@ -1,4 +1,6 @@
 // What a received frame says: its class, and the feedback in it or a register and its value.
+#![tactic(auto)]
+
 ghost use Rattle.std.specs.Prelude.{◌≡◌, ◌+◌, ◌*◌, ◌&&◌, ◌||◌, leb, eqb};
 ghost use Rattle.protocol_received.specs.Received as Spec;
 
@@ -6,7 +8,7 @@ use motor_core::model::PvTLimits;
 use protocol_feedback::{SensorFeedback, decode_sensor_feedback};
 use registers::{RegisterDataType, RegisterInfo, RegisterValue};
 
-#[derive(Drop)]
+#[derive(Clone, Copy)]
 pub enum FrameClass {
     Reply,
     Ack,
@@ -14,7 +16,7 @@ pub enum FrameClass {
 }
 
 // The class of a frame, with the type of the register that it names.
-#[derive(Drop)]
+#[derive(Clone, Copy)]
 pub enum Sorted {
     Reply(RegisterDataType),
     Ack(RegisterDataType),
@@ -22,7 +24,7 @@ pub enum Sorted {
 }
 
 // What a frame says: a register's value, replied or acknowledged, or feedback.
-#[derive(Drop)]
+#[derive(Clone, Copy)]
 pub enum Received {
     Reply(u8, RegisterValue),
     Ack(u8, RegisterValue),

@@ -1,5 +1,7 @@
 // Requests to the motor: register reads and writes, storing, feedback; and disable, zero and clear, which
 // only their last byte tells apart. Each as its data, and as a frame or a refusal.
+#![tactic(auto)]
+
 ghost use Rattle.std.specs.Prelude.{◌≡◌, [], ◌∷◌};
 ghost use Rattle.protocol_frame.specs.Layout.{field, byte};
 ghost use Rattle.protocol_request.specs.Request as Spec;

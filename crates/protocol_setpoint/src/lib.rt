@@ -1,5 +1,7 @@
 // Setpoint frames: MIT, position-velocity, velocity and force-position. Each as its data, and as a frame
 // or a refusal.
+#![tactic(auto)]
+
 ghost use Rattle.std.specs.Prelude.{◌≡◌, ◌+◌, ◌*◌, ◌/◌, ◌%◌};
 ghost use Rattle.protocol_codes.specs.Codes.{bits_in, float_to_uint};
 ghost use Rattle.protocol_setpoint.specs.Setpoint as Spec;

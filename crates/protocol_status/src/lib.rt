@@ -1,11 +1,13 @@
 // The names of a motor's status.
+#![tactic(auto)]
+
 ghost use Rattle.std.specs.Prelude.{◌≡◌};
 ghost use Rattle.motor_core.specs.Name.{name_of};
 ghost use Rattle.protocol_status.specs.Status.{status_name, spelt};
 
 use motor_core::name::Name;
 
-#[derive(Drop)]
+#[derive(Clone, Copy)]
 pub enum StatusName {
     Disabled,
     Enabled,

@@ -1,24 +1,26 @@
 // The motor's registers: which are known, their type and access, and the values that they hold. What is
 // known comes from one lookup, which agrees with the Rust's REGISTER_TABLE at every number.
+#![tactic(auto)]
+
 ghost use Rattle.std.specs.Prelude.{◌≡◌};
 ghost use Rattle.registers.specs.Registers.{code_of, info_of, known};
 ghost use Rattle.registers.specs.Value.{value_of, bits_of, type_of, is_u32, of_type, same_value};
 
 use float::F32Bits;
 
-#[derive(Drop)]
+#[derive(Clone, Copy)]
 pub enum RegisterAccess {
     ReadOnly,
     ReadWrite,
 }
 
-#[derive(Drop)]
+#[derive(Clone, Copy)]
 pub enum RegisterDataType {
     Float,
     UInt32,
 }
 
-#[derive(Drop)]
+#[derive(Clone, Copy)]
 pub enum RegisterInfo {
     Unknown,
     Known(RegisterAccess, RegisterDataType),
@@ -87,7 +89,7 @@ pub fn is_known(rid: u8) -> bool
 }
 
 // What a register holds. A NaN is kept as its 32 bits, since the language's f32 has one NaN only.
-#[derive(Drop)]
+#[derive(Clone, Copy)]
 pub enum RegisterValue {
     Float(f32),
     Nan(F32Bits),

@@ -1,5 +1,7 @@
 // The arguments of each start: why they are refused, or the machine that the run begins with. No session
 // is looked at.
+#![tactic(auto)]
+
 ghost use Rattle.std.specs.Prelude.{◌≡◌};
 ghost use Rattle.run_arguments.specs.Arguments as Spec;
 
@@ -17,7 +19,7 @@ use switch_stage::Switch;
 use time::{Duration, accepts_timeout};
 
 // A run's machine at its beginning, or why its arguments are refused.
-#[derive(Drop)]
+#[derive(Clone, Copy)]
 pub enum StartCheck {
     Accepted(Machine),
     Refused(u8),

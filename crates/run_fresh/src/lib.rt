@@ -1,5 +1,7 @@
 // The fresh-state request, `request_fresh_state`: asks for feedback and waits for a record that is no
 // older. Storing, which begins with one, is in `store`.
+#![tactic(auto)]
+
 pub mod store;
 
 ghost use Rattle.std.specs.Prelude.{◌≡◌};
@@ -13,7 +15,7 @@ use run_want::{Answer, Failure, Want};
 use state_feedback::{Latest, MotorFeedbackState};
 use time::{Duration, Instant};
 
-#[derive(Drop)]
+#[derive(Clone, Copy)]
 pub enum StateNext {
     Goes(Ask),
     Got(MotorFeedbackState),

@@ -17,7 +17,7 @@ const STORE_PARAMS_DISABLE_SETTLE: Duration = Duration(20_000_000);
 const STORE_PARAMS_SETTLE: Duration = Duration(30_000_000);
 
 // The request, the disable frame and the sleep after it, the store frame and the sleep after it.
-#[derive(Drop)]
+#[derive(Clone, Copy)]
 pub enum Store {
     Asking(Ask),
     Disabling,
@@ -26,7 +26,7 @@ pub enum Store {
     Stored,
 }
 
-#[derive(Drop)]
+#[derive(Clone, Copy)]
 pub enum StoreNext {
     Goes(Store),
     Done,

@@ -1,5 +1,7 @@
 // The machine of each run: where it stands, what it wants and where it looks; and what a run can end
 // with.
+#![tactic(auto)]
+
 ghost use Rattle.std.specs.Prelude.{◌≡◌};
 ghost use Rattle.run_machine.specs.Machine as Spec;
 
@@ -17,7 +19,7 @@ use switch_stage::{Switch, switch_place, switch_want};
 use time::Duration;
 
 // The run's own arguments, then its phase.
-#[derive(Drop)]
+#[derive(Clone, Copy)]
 pub enum Machine {
     GetRegister(RegisterDataType, u8, Duration, Ask),
     WriteRegister(u8, RegisterValue, Write),
@@ -26,7 +28,7 @@ pub enum Machine {
     EnsureControlMode(ControlMode, Duration, Switch),
 }
 
-#[derive(Drop)]
+#[derive(Clone, Copy)]
 pub enum RunResult {
     Done,
     Value(RegisterValue),

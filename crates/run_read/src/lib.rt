@@ -1,5 +1,7 @@
 // The register read: `wait_for_register_value`, and `get_register_u32` and `get_register_f32` on it. It
 // asks, and waits for a reply that is no older than its opening.
+#![tactic(auto)]
+
 ghost use Rattle.std.specs.Prelude.{◌≡◌};
 ghost use Rattle.run_read.specs.Read as Spec;
 
@@ -12,7 +14,7 @@ use run_want::{Answer, Failure, Want};
 use state_cache::Entry;
 use time::{Duration, Instant};
 
-#[derive(Drop)]
+#[derive(Clone, Copy)]
 pub enum ReadNext {
     Goes(Ask),
     Got(RegisterValue),

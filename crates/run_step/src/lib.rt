@@ -1,5 +1,7 @@
 // The step of each run's machine by an answer: the machine that goes on, or the run's result. It sees
 // the latest record and the one entry that the machine looks at.
+#![tactic(auto)]
+
 ghost use Rattle.std.specs.Prelude.{◌≡◌};
 ghost use Rattle.run_step.specs.Step as Spec;
 
@@ -17,7 +19,7 @@ use switch_stage::SwitchNext;
 use switch_step::switch_step;
 use time::Duration;
 
-#[derive(Drop)]
+#[derive(Clone, Copy)]
 pub enum Next {
     Goes(Machine),
     Ends(RunResult),

@@ -8,7 +8,7 @@ use run_want::message::Message;
 use run_want::{Answer, Failure, SendOutcome, Want, reading_of, send_outcome};
 use time::{Duration, Instant};
 
-#[derive(Drop)]
+#[derive(Clone, Copy)]
 pub enum Ask {
     Opening,
     Sending(Instant),
@@ -16,7 +16,7 @@ pub enum Ask {
 }
 
 // As `Waited`, or the send failed.
-#[derive(Drop)]
+#[derive(Clone, Copy)]
 pub enum Asked {
     Goes(Ask),
     Looks(Instant),

@@ -1,5 +1,7 @@
 // The loop that the Rust's three waits share: look, then compare the clock with the deadline, then
 // sleep. What to look for is left to the caller.
+#![tactic(auto)]
+
 pub mod ask;
 pub mod look;
 
@@ -13,14 +15,14 @@ use time::{Duration, Instant};
 pub const REGISTER_POLL_INTERVAL: Duration = Duration(2_000_000);
 
 // After a look that found nothing, with the wait's opening.
-#[derive(Drop)]
+#[derive(Clone, Copy)]
 pub enum Wait {
     Checking(Instant),
     Napping(Instant),
 }
 
 // The wait goes on, or it is time for a look at what came since the opening, or the deadline is past.
-#[derive(Drop)]
+#[derive(Clone, Copy)]
 pub enum Waited {
     Goes(Wait),
     Looks(Instant),

@@ -1,5 +1,7 @@
 // What a run wants, one thing at a time: a reading of the clock, a message sent, a sleep; and how it is
 // answered. Why a run fails, and the frame of each message.
+#![tactic(auto)]
+
 pub mod message;
 
 ghost use Rattle.std.specs.Prelude.{◌≡◌};
@@ -9,14 +11,14 @@ use message::Message;
 use registers::RegisterValue;
 use time::{Duration, Instant};
 
-#[derive(Drop)]
+#[derive(Clone, Copy)]
 pub enum Want {
     Clock,
     Send(Message),
     Sleep(Duration),
 }
 
-#[derive(Drop)]
+#[derive(Clone, Copy)]
 pub enum Answer {
     Reading(Instant),
     Send(SendResult),
@@ -24,7 +26,7 @@ pub enum Answer {
 }
 
 // How a send went: sent, failed as a timeout, or failed otherwise.
-#[derive(Drop)]
+#[derive(Clone, Copy)]
 pub enum SendResult {
     Sent,
     Timeout,
@@ -32,7 +34,7 @@ pub enum SendResult {
 }
 
 // Why a run fails.
-#[derive(Drop)]
+#[derive(Clone, Copy)]
 pub enum Failure {
     Timeout,
     Mismatch(RegisterValue),
@@ -41,7 +43,7 @@ pub enum Failure {
 }
 
 // What a send means to a run: it went, or the run fails so.
-#[derive(Drop)]
+#[derive(Clone, Copy)]
 pub enum SendOutcome {
     Sent,
     Failed(Failure),

@@ -12,7 +12,7 @@ use protocol_request::{
 
 // A setpoint is the one of that mode that stands still at a position: to clear the mode's channel before
 // a switch, or to hold the position after it.
-#[derive(Drop)]
+#[derive(Clone, Copy)]
 pub enum Message {
     ReadRegister(u8),
     WriteRegister(u8, u32),

@@ -12,13 +12,13 @@ use time::{Duration, Instant};
 // In nanoseconds.
 const WRITE_REGISTER_ACK_TIMEOUT: Duration = Duration(50_000_000);
 
-#[derive(Drop)]
+#[derive(Clone, Copy)]
 pub enum AckWait {
     Opening,
     Waiting(Wait),
 }
 
-#[derive(Drop)]
+#[derive(Clone, Copy)]
 pub enum AckNext {
     Goes(AckWait),
     Acked,

@@ -1,5 +1,7 @@
 // The confirmed write: `write_register_u32` and `write_register_f32`, with `wait_for_write_ack`. It
 // sends, waits for an ack of the value, and tries again, three times in all.
+#![tactic(auto)]
+
 pub mod ack;
 
 ghost use Rattle.std.specs.Prelude.{◌≡◌};
@@ -18,14 +20,14 @@ const WRITE_REGISTER_ACK_ATTEMPTS: u8 = 3;
 const WRITE_REGISTER_ACK_RETRY_GAP: Duration = Duration(20_000_000);
 
 // `tries_left` is the number of tries after this one; in a gap, after the one that follows it.
-#[derive(Drop)]
+#[derive(Clone, Copy)]
 pub enum Write {
     Sending(u8),
     Waiting(u8, AckWait),
     Gap(u8),
 }
 
-#[derive(Drop)]
+#[derive(Clone, Copy)]
 pub enum WriteNext {
     Goes(Write),
     Written,

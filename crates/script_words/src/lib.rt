@@ -1,5 +1,7 @@
 // Bytes as words and numbers: where a line's words begin and end, and what a number in decimal or
 // hexadecimal is.
+#![tactic(auto)]
+
 mod numbers;
 
 ghost use Rattle.std.specs.Prelude.{◌≡◌, ◌+◌, drop};
@@ -8,7 +10,7 @@ ghost use Rattle.script_words.specs.Word.{index_of, split, second};
 pub use numbers::{field, number};
 
 // A word that has a value, or has none.
-#[derive(Drop)]
+#[derive(Clone, Copy)]
 pub enum Read {
     Value(u64),
     Bad,

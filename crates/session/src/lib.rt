@@ -1,5 +1,7 @@
 // A motor's session: its head, the caches of the motor's register replies and acks, and the run that is
 // open. It goes by value.
+#![tactic(auto)]
+
 pub mod start;
 
 ghost use Rattle.std.specs.Prelude.{◌≡◌};
@@ -15,7 +17,7 @@ use time::Instant;
 
 // The ids and limits of the motor, its latest record, and the last reading: the small part that a frame
 // or an answer works on.
-#[derive(Drop)]
+#[derive(Clone, Copy)]
 pub struct Head {
     pub motor_id: u16,
     pub feedback_id: u16,
@@ -25,19 +27,19 @@ pub struct Head {
 }
 
 // Whether a run is open, and then where its machine stands.
-#[derive(Drop)]
+#[derive(Clone, Copy)]
 pub enum Phase {
     Closed,
     Open(Machine),
 }
 
-#[derive(Drop)]
+#[derive(Clone, Copy)]
 pub struct Run {
     pub phase: Phase,
 }
 
 // A slot for each register number up to the last register, 81.
-#[derive(Drop)]
+#[derive(Clone, Copy)]
 pub struct Session {
     pub head: Head,
     pub replies: [Slot; 82],
@@ -45,7 +47,7 @@ pub struct Session {
     pub run: Run,
 }
 
-#[derive(Drop)]
+#[derive(Clone, Copy)]
 pub struct AfterPatch {
     pub session: Session,
     pub patched: bool,

@@ -14,14 +14,14 @@ use state_cache::{Entry, Slot};
 use state_feedback::{FeedbackCache, Latest};
 use time::Instant;
 
-#[derive(Drop)]
+#[derive(Clone, Copy)]
 pub enum StartOutcome {
     Started,
     Refused(u8),
 }
 
 // Beside a refusal the session is `no_session()`.
-#[derive(Drop)]
+#[derive(Clone, Copy)]
 pub struct Started {
     pub session: Session,
     pub outcome: StartOutcome,

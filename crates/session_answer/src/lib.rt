@@ -1,5 +1,7 @@
 // Answering the run of a session: the entry that the run looks at is found, and the work done in the
 // small parts.
+#![tactic(auto)]
+
 ghost use Rattle.std.specs.Prelude.{◌≡◌};
 ghost use Rattle.session_answer.specs.Answer as Spec;
 ghost use Rattle.session_answer.specs.Slots.{place_register, entry_between};
@@ -10,7 +12,7 @@ use session::{Phase, Run, Session};
 use session_step::{Told, answer_step};
 use state_cache::{Entry, Place, Slot, slot_place};
 
-#[derive(Drop)]
+#[derive(Clone, Copy)]
 pub struct AfterCall {
     pub session: Session,
     pub told: Told,

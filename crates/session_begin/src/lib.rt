@@ -1,5 +1,7 @@
 // The starts of the runs on a session: refused while a run is open, or by their arguments. A start
 // takes no reading; it returns the run's first want.
+#![tactic(auto)]
+
 ghost use Rattle.std.specs.Prelude.{◌≡◌};
 ghost use Rattle.session_begin.specs.Begin as Spec;
 
@@ -16,7 +18,7 @@ use session_step::{Told, caller_want};
 use time::Duration;
 
 // The run after a start, and what the start returns.
-#[derive(Drop)]
+#[derive(Clone, Copy)]
 struct StartStep {
     told: Told,
     run: Run,

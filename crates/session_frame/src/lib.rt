@@ -1,4 +1,6 @@
 // A frame, in the small parts of a session: its head, and at most one slot that is to be kept.
+#![tactic(auto)]
+
 ghost use Rattle.std.specs.Prelude.{◌≡◌};
 ghost use Rattle.state_cache.specs.Cache.{held};
 ghost use Rattle.session_frame.specs.Frame as Spec;
@@ -12,14 +14,14 @@ use state_cache::{Entry, Slot};
 use state_feedback::{FeedbackCache, state_of, update};
 use time::{Instant, accepts_reading};
 
-#[derive(Drop)]
+#[derive(Clone, Copy)]
 pub enum FrameOutcome {
     Taken,
     Refused(u8),
 }
 
 // What a frame leaves in a cache: a register's slot, of the replies or of the acks.
-#[derive(Drop)]
+#[derive(Clone, Copy)]
 pub enum Kept {
     Nothing,
     Reply(u8, Slot),
@@ -27,7 +29,7 @@ pub enum Kept {
 }
 
 // The small parts after a frame, and what is to be kept.
-#[derive(Drop)]
+#[derive(Clone, Copy)]
 pub struct FrameStep {
     pub outcome: FrameOutcome,
     pub head: Head,
@@ -35,7 +37,7 @@ pub struct FrameStep {
 }
 
 // The session stands first: copies of it are cheaper so.
-#[derive(Drop)]
+#[derive(Clone, Copy)]
 pub struct AfterFrame {
     pub session: Session,
     pub outcome: FrameOutcome,

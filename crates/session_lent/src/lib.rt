@@ -1,5 +1,7 @@
 // Taking a frame into a session that is lent. The head and the two slots of the frame's register are
 // read, stepped and written back where they stand; nothing else of the session is touched.
+#![tactic(auto)]
+
 ghost use Rattle.std.specs.Prelude.{◌≡◌};
 ghost use Rattle.session_frame.specs.Frame.{take_frame};
 ghost use Rattle.session_lent.specs.Lent as Spec;
@@ -11,7 +13,7 @@ use state_cache::{Slot, slot_place};
 use time::Instant;
 
 // What a frame works on: the head, and its register's slot among the replies and among the acks.
-#[derive(Drop)]
+#[derive(Clone, Copy)]
 pub struct Parts {
     pub head: Head,
     pub reply: Slot,

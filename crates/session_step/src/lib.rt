@@ -1,5 +1,7 @@
 // An answer to a run, in the small parts of a session: its head and run, with the one entry that the run
 // looks at.
+#![tactic(auto)]
+
 ghost use Rattle.std.specs.Prelude.{◌≡◌};
 ghost use Rattle.session_step.specs.Parts as Spec;
 
@@ -13,7 +15,7 @@ use state_cache::Entry;
 use time::{Duration, Instant, accepts_reading};
 
 // What the caller is to do next; a send by its arbitration id and data.
-#[derive(Drop)]
+#[derive(Clone, Copy)]
 pub enum Wanted {
     Clock,
     Send(u32, u64),
@@ -21,7 +23,7 @@ pub enum Wanted {
 }
 
 // What a start or an answer returns: what the run wants, or its result, or the number of a refusal.
-#[derive(Drop)]
+#[derive(Clone, Copy)]
 pub enum Told {
     Want(Wanted),
     Result(RunResult),
@@ -29,7 +31,7 @@ pub enum Told {
 }
 
 // The small parts after an answer.
-#[derive(Drop)]
+#[derive(Clone, Copy)]
 pub struct AnswerStep {
     pub told: Told,
     pub head: Head,

@@ -7,7 +7,7 @@ use text::put;
 
 // Low feedback has a position so low that d2 decides, and that of unknown registers looks like a
 // reply.
-#[derive(Drop)]
+#[derive(Clone, Copy)]
 pub(crate) enum Frames {
     Replies,
     Acks,

@@ -1,5 +1,7 @@
 // Times the library: each row makes its inputs from the seed, does one piece of work on each of them
 // and prints a checksum of the results. With a seed as its argument the program prints times too.
+#![tactic(auto)]
+
 mod frames;
 mod lent;
 mod models;

@@ -5,13 +5,13 @@ use model_list::{MODEL_PLACES, Maxima};
 
 // Setpoints that go beyond the limits of model 4310, and those of kp and kd, by so much of their span
 // at either end; or queries near a model's limits, with a tolerance, and a number that is not used.
-#[derive(Drop)]
+#[derive(Clone, Copy)]
 pub(crate) enum Numbers {
     Setpoints(f32),
     Queries(f32),
 }
 
-#[derive(Drop)]
+#[derive(Clone, Copy)]
 struct Range {
     low: f32,
     high: f32,

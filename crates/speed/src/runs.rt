@@ -22,7 +22,7 @@ const READ_TIMEOUT: Duration = Duration(100_000_000);
 
 const SWITCH_TIMEOUT: Duration = Duration(400_000_000);
 
-#[derive(Drop)]
+#[derive(Clone, Copy)]
 pub(crate) enum Kind {
     Read,
     Write,
@@ -31,7 +31,7 @@ pub(crate) enum Kind {
 
 // A session with what it was told last, the value of the motor's register 10, the clock, and the
 // checksum of what was told so far.
-#[derive(Drop)]
+#[derive(Clone, Copy)]
 struct Line {
     turn: AfterCall,
     value: u32,

@@ -1,5 +1,7 @@
 // What the motor last said of a register, in a reply or in an ack: an entry with its stamp, the slot
 // that holds it, and where a run looks for it.
+#![tactic(auto)]
+
 ghost use Rattle.std.specs.Prelude.{◌≡◌};
 ghost use Rattle.state_cache.specs.Cache as Spec;
 
@@ -7,26 +9,26 @@ use motor_core::error::REGISTER;
 use registers::RegisterValue;
 use time::Instant;
 
-#[derive(Drop)]
+#[derive(Clone, Copy)]
 pub enum Entry {
     Empty,
     Held(RegisterValue, Instant),
 }
 
-#[derive(Drop)]
+#[derive(Clone, Copy)]
 pub struct Slot {
     pub entry: Entry,
 }
 
 // The one slot that a run looks at: a register's among the replies, or among the acks.
-#[derive(Drop)]
+#[derive(Clone, Copy)]
 pub enum Place {
     Nowhere,
     Reply(u8),
     Ack(u8),
 }
 
-#[derive(Drop)]
+#[derive(Clone, Copy)]
 pub enum Cached {
     Entry(Entry),
     Refused(u8),

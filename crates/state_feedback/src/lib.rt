@@ -1,5 +1,7 @@
 // The latest feedback with its stamp and its number, as the Rust's feedback.rs keeps it, and the patch
 // of its status and temperatures.
+#![tactic(auto)]
+
 ghost use Rattle.std.specs.Prelude.{◌≡◌};
 ghost use Rattle.state_feedback.specs.Feedback as Spec;
 
@@ -7,7 +9,7 @@ use protocol_feedback::SensorFeedback;
 use protocol_status::StatusName;
 use time::Instant;
 
-#[derive(Drop)]
+#[derive(Clone, Copy)]
 pub struct MotorFeedbackState {
     pub can_id: u8,
     pub arbitration_id: u32,
@@ -20,26 +22,26 @@ pub struct MotorFeedbackState {
     pub t_rotor: f32,
 }
 
-#[derive(Drop)]
+#[derive(Clone, Copy)]
 pub struct FeedbackSnapshot {
     pub state: MotorFeedbackState,
     pub received_at: Instant,
     pub sequence: u64,
 }
 
-#[derive(Drop)]
+#[derive(Clone, Copy)]
 pub enum Latest {
     None,
     Snapshot(FeedbackSnapshot),
 }
 
-#[derive(Drop)]
+#[derive(Clone, Copy)]
 pub struct FeedbackCache {
     pub latest: Latest,
     pub sequence: u64,
 }
 
-#[derive(Drop)]
+#[derive(Clone, Copy)]
 pub struct Patched {
     pub cache: FeedbackCache,
     pub patched: bool,

@@ -1,4 +1,6 @@
 // `finish_mode_switch`: the hold frame after a write of the mode.
+#![tactic(auto)]
+
 ghost use Rattle.std.specs.Prelude.{◌≡◌};
 ghost use Rattle.switch_finish.specs.Finish as Spec;
 
@@ -7,7 +9,7 @@ use run_want::{Failure, SendOutcome};
 use switch_stage::HoldPosition;
 
 // A hold frame is wanted, or the switch goes on to verify, or fails.
-#[derive(Drop)]
+#[derive(Clone, Copy)]
 pub enum FinishNext {
     Holds,
     Done,

@@ -1,4 +1,6 @@
 // `prepare_for_mode_switch`: the position to hold is read, and every mode's setpoint is cleared.
+#![tactic(auto)]
+
 ghost use Rattle.std.specs.Prelude.{◌≡◌};
 ghost use Rattle.switch_prepare.specs.Prepare as Spec;
 
@@ -12,7 +14,7 @@ use switch_time::{TimeLeft, capped_remaining, hold_read_cap};
 use time::{Duration, Instant};
 
 // The preparation goes on, or the mode can be written.
-#[derive(Drop)]
+#[derive(Clone, Copy)]
 pub enum PrepareNext {
     Goes(Progress, Stage),
     Ready(Progress),

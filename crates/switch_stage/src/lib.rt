@@ -1,5 +1,7 @@
 // The stages of a mode switch: what a switch keeps, what each stage wants and where it looks. A session
 // holds one of them while a switch is open.
+#![tactic(auto)]
+
 ghost use Rattle.std.specs.Prelude.{◌≡◌};
 ghost use Rattle.switch_stage.specs.Stage as Spec;
 
@@ -19,14 +21,14 @@ const MODE_REGISTER: u8 = 10;
 const POSITION_REGISTER: u8 = 80;
 
 // Rust's `Option<f32>`, by its bits.
-#[derive(Drop)]
+#[derive(Clone, Copy)]
 pub enum HoldPosition {
     None,
     Some(F32Bits),
 }
 
 // What a switch keeps from its first reading on.
-#[derive(Drop)]
+#[derive(Clone, Copy)]
 pub struct Progress {
     pub deadline: Instant,
     pub hold_position: HoldPosition,
@@ -34,7 +36,7 @@ pub struct Progress {
 }
 
 // The first read of the mode, or one that verifies it, with the number of those after it.
-#[derive(Drop)]
+#[derive(Clone, Copy)]
 pub enum ModeRead {
     First,
     Verify(u8),
@@ -42,7 +44,7 @@ pub enum ModeRead {
 
 // Named after what each wants: `..Remaining` the clock, to know the time that is left; a read, a frame,
 // a write, a sleep. The number in the last four is that of the verifying reads after the next one.
-#[derive(Drop)]
+#[derive(Clone, Copy)]
 pub enum Stage {
     Remaining(ModeRead),
     Reading(ModeRead, Duration, Ask),
@@ -56,13 +58,13 @@ pub enum Stage {
 }
 
 // Before its first reading a switch keeps nothing.
-#[derive(Drop)]
+#[derive(Clone, Copy)]
 pub enum Switch {
     Starting,
     Begun(Progress, Stage),
 }
 
-#[derive(Drop)]
+#[derive(Clone, Copy)]
 pub enum SwitchNext {
     Goes(Switch),
     Done,

@@ -1,4 +1,6 @@
 // The mode switch, `ensure_control_mode`: the reads of the mode, and the step from stage to stage.
+#![tactic(auto)]
+
 ghost use Rattle.std.specs.Prelude.{◌≡◌};
 ghost use Rattle.switch_step.specs.Switch as Spec;
 

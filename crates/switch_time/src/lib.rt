@@ -1,5 +1,7 @@
 // The time that a mode switch has for its parts: the caps of its reads, its deadline and the
 // settling sleep.
+#![tactic(auto)]
+
 ghost use Rattle.std.specs.Prelude.{◌≡◌, ◌≤◌};
 ghost use Rattle.switch_time.specs.TimeLeft as Spec;
 
@@ -14,7 +16,7 @@ const ENSURE_MODE_HOLD_POSITION_TIMEOUT: Duration = Duration(30_000_000);
 const ENSURE_MODE_SETTLE: Duration = Duration(20_000_000);
 
 // Rust's `Option<Duration>`.
-#[derive(Drop)]
+#[derive(Clone, Copy)]
 pub enum TimeLeft {
     None,
     Some(Duration),

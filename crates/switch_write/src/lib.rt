@@ -1,5 +1,7 @@
 // `ensure_control_mode` around its writes of the mode: the confirmed write, the settling sleep, and on to
 // the verifying read. `verifies_left` is the number of verifying reads after the next one.
+#![tactic(auto)]
+
 ghost use Rattle.std.specs.Prelude.{◌≡◌};
 ghost use Rattle.switch_stage.specs.Stage as Stages;
 ghost use Rattle.switch_write.specs.WriteMode as Spec;

@@ -1,5 +1,7 @@
 // Byte strings: comparing them, and putting bytes and numbers into a buffer, where what does not
 // fit is dropped.
+#![tactic(auto)]
+
 ghost use Rattle.std.specs.Prelude.{◌≡◌, ◌≤◌, ◌<◌, min, length, take, drop};
 ghost use Rattle.text.specs.Text.{same, put_at, place_after, digits, trimmed, decimal, hexadecimal};
 ghost use Rattle.text.specs.Text.{glyph as Text·glyph};

@@ -1,12 +1,14 @@
 // Points and spans of time, in nanoseconds, for the Rust's Instant and Duration: two types, so that
 // neither can stand for the other.
+#![tactic(auto)]
+
 ghost use Rattle.std.specs.Prelude.{◌≡◌};
 ghost use Rattle.time.specs.Time.{reading_accepted, timeout_accepted};
 
-#[derive(Drop)]
+#[derive(Clone, Copy)]
 pub struct Instant(pub u64);
 
-#[derive(Drop)]
+#[derive(Clone, Copy)]
 pub struct Duration(pub u64);
 
 // Whether a reading may follow the last: it does not go back, and is at most 2^62.
