@@ -1,20 +1,19 @@
 -- A test that turns back: `if !t { return a }` with b after it is `cond t b a`, and `if t { return a }` is `cond t a b`. Constructors that differ. Assumes nothing.
 use mathlib.Core.Path.{◌≡◌, sym, ap, ◌∙◌}
-use mathlib.Core.Bool.{Bool, true, false, not, cond}
+use mathlib.Core.Bool.{Bool, true, false, cond}
 use Prim.Native.Nat.{ℕ}
 use native.Mathlib.Omega.{arith}
-use borrow.Author.Tests.{not-true, not-false}
 
 -- `cc` proves this equation from one of two constructors that differ
 pub clash : ◌≡◌ {A = ℕ} 0 1 → ⊥
 clash e = omega arith
 
 module _ {A : Type 0} (t test : Bool) (a b : A) (e : t ≡ test) where
-  pub turned : not t ≡ true → a ≡ cond test b a
-  turned h = ap (λ (s : Bool). cond s b a) (sym (not-true t h) ∙ e)
+  pub turned : t ≡ false → a ≡ cond test b a
+  turned h = ap (λ (s : Bool). cond s b a) (sym h ∙ e)
 
-  pub passed : not t ≡ false → b ≡ cond test b a
-  passed h = ap (λ (s : Bool). cond s b a) (sym (not-false t h) ∙ e)
+  pub passed : t ≡ true → b ≡ cond test b a
+  passed h = ap (λ (s : Bool). cond s b a) (sym h ∙ e)
 
   pub met : t ≡ true → a ≡ cond test a b
   met h = ap (λ (s : Bool). cond s a b) (sym h ∙ e)
