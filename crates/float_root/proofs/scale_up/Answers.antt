@@ -19,8 +19,8 @@ one-off m k h = mul_assoc m 4 (2 ^ (k - 1 + (k - 1))) ∙ ap (λ (x : ℕ). m * 
     join : (k : ℕ) → 1 ≤ k → 2 + (k - 1 + (k - 1)) ≡ k + k
     join k h = omega arith
 
-left : (c : tie.In-loop invariant-loop decreases-loop) → 1 ≤ c.before.loop.k
-left c = let l = c.before.loop in some l.k (power-left 46 l.m l.k c.before.before.args.digits c.before.before.requires.0 c.loop-test.true l.invariant.0)
+left : (c : goal.In-loop-m) → 1 ≤ c.loop-m.k
+left c = let l = c.loop-m in some l.k (power-left 46 l.m l.k c.args.digits c.requires.0 c.loop-m-test.true l.invariant.0)
   where
     some : (k : ℕ) → 149 < 46 + (k + k) → 1 ≤ k
     some k h = omega arith
