@@ -1,4 +1,5 @@
 -- `protocol_status::status_name` meets its contract. Assumes nothing.
+use native.Mathlib.Omega.{arith}
 use mathlib.Core.Path.{◌≡◌, sym, ap}
 use Prim.Native.Nat.{ℕ}
 use borrow.Author.Tests.{ne_eqb}
@@ -48,9 +49,7 @@ unfolding status_name
 returns-in-14 c = sym (ap status_name c.in-14.is)
 
 pub returns-in-2-to-7 : goal.returns-in-2-to-7
-returns-in-2-to-7 c = let r = c.in_default-own.rest in
-    none _ r.0.0.0.0.0.0.0.0.1 r.0.0.0.0.0.0.0.1 r.0.0.0.0.0.0.1 r.0.0.0.0.0.1 r.0.0.0.0.1 r.0.0.0.1 r.0.0.1 r.0.1 r.1
+returns-in-2-to-7 c = none c.args.status (omega arith) (omega arith) (omega arith) (omega arith) (omega arith) (omega arith) (omega arith) (omega arith) (omega arith)
 
 pub returns-in-15-to-255 : goal.returns-in-15-to-255
-returns-in-15-to-255 c = let r = c.in_default-own.rest in
-    none _ r.0.0.0.0.0.0.0.0.1 r.0.0.0.0.0.0.0.1 r.0.0.0.0.0.0.1 r.0.0.0.0.0.1 r.0.0.0.0.1 r.0.0.0.1 r.0.0.1 r.0.1 r.1
+returns-in-15-to-255 c = none c.args.status (omega arith) (omega arith) (omega arith) (omega arith) (omega arith) (omega arith) (omega arith) (omega arith) (omega arith)

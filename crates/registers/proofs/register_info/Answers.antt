@@ -1,4 +1,5 @@
 -- `registers::register_info` meets its contract. Assumes nothing.
+use native.Mathlib.Omega.{arith}
 use mathlib.Core.Path.{◌≡◌, sym, ap, ◌∙◌}
 use Prim.Native.Nat.{ℕ}
 use Rattle.registers.specs.Registers.{info_of, code_of}
@@ -25,5 +26,5 @@ pub returns-in-4 : goal.returns-in-4
 returns-in-4 c = at_code _ _ 4 c.register_code-code.ensures c.in-4.is
 
 pub returns-in_default : goal.returns-in_default
-returns-in_default c = let none = c.in_default-own.rest in
-    sym (none_of_four _ none.0.0.0.1 none.0.0.1 none.0.1 none.1) ∙ by_code _ _ c.register_code-code.ensures
+returns-in_default c =
+    sym (none_of_four c.register_code-code.result (omega arith) (omega arith) (omega arith) (omega arith)) ∙ by_code _ _ c.register_code-code.ensures
