@@ -7,18 +7,16 @@ use native.Mathlib.Nat.{min-eq_left, min-eq_right, min-le_left, le_of_lt, le_of_
 use native.Mathlib.Numerals.{add-one}
 use native.Mathlib.Omega.{arith}
 use lib.Dec.{T, leb, leb→le, nleb→lt}
-use lib.ListN.{length, take, drop, get_or, set, replicate, length-append, length-take, length-map, drop_of_length-le}
+use lib.ListN.{length, take, drop, get_or, set, replicate, length-append, length-take, drop_of_length-le}
 use lib.Seq.{set-append_seam, take_all, drop-cons, get_or-take}
 use mir.Val.{Val}
 use denote.Laws.{Is}
 use denote.Struct.Laws as Laws
-use Rattle.motor_core.specs.contracts.name.Name as Name·row
 use Rattle.motor_core.specs.Name.{name_of}
 use Rattle.motor_core.specs.declared.name.Name.{Name}
 use Rattle.model_list.specs.Counted.{model_places, models_of, names_of}
 use Rattle.model_list.specs.declared.ModelList.{ModelList}
 use Rattle.model_list.specs.declared.Names.{Names}
-use Rattle.model_list.specs.contracts.MotorModelSpec as Model·row
 use Rattle.model_list.specs.contracts.ModelList as List·row
 use Rattle.model_list.proofs.ModelList.TheLaws as List·laws
 use Rattle.model_list.specs.contracts.Names as Names·row
@@ -57,13 +55,13 @@ unfolding names_of
 holds_all h = λ i. record { names = h.places i; count = h.count i }
 
 pub models_places : (list : ModelList) (vs : List Val) → Is List·row.the_row list vs → length list.models ≡ model_places
-models_places list vs is = sym (length-map list.models (Model·row.the_field).into) ∙ (Laws.owed List·row.the_type List·laws.the_laws list vs is).0.1.0.1
+models_places list vs is = (Laws.owed List·row.the_type List·laws.the_laws list vs is).0.1.0.1
 
 pub models_length : (list : ModelList) → length list.models ≡ model_places → length (models_of list) ≡ min list.count model_places
 models_length list e = length-take list.count list.models ∙ ap (min list.count) e
 
 pub names_places : (names : Names) (vs : List Val) → Is Names·row.the_row names vs → length names.names ≡ model_places
-names_places names vs is = sym (length-map names.names (Name·row.the_field).into) ∙ (Laws.owed Names·row.the_type Names·laws.the_laws names vs is).0.1.0.1
+names_places names vs is = (Laws.owed Names·row.the_type Names·laws.the_laws names vs is).0.1.0.1
 
 -- a count beyond the length takes all
 pub take_min : {A : Type 0} (n m : ℕ) (l : List A) → length l ≡ m → take (min n m) l ≡ take n l

@@ -35,11 +35,10 @@ pub loop-m-preserved : goal.loop-m-preserved
 loop-m-preserved c = let l = c.loop-m in let h = left c in (one-off l.m l.k h ∙ l.invariant.0, omega arith, omega arith)
 
 pub returns : goal.returns
-returns c = let l = c.loop-m in
-    (
-      l.invariant.0,
-      c.loop-m-test.false,
-      l.invariant.1,
-      enough l.k (power-left 48 l.m l.k c.args.digits c.requires.0 l.invariant.1 l.invariant.0),
-      small l.k l.invariant.2,
-    )
+returns c = let l = c.loop-m in (
+  l.invariant.0,
+  c.loop-m-test.false,
+  l.invariant.1,
+  enough l.k (power-left 48 l.m l.k c.args.digits c.requires.0 l.invariant.1 l.invariant.0),
+  small l.k l.invariant.2,
+)

@@ -1,6 +1,5 @@
 -- `float_root::whole_root` meets its contract, wherever the guess lies. The first loop comes down to a square that is at most m, the second goes up as long as it stays so. Assumes nothing.
 use mathlib.Core.Path.{sym}
-use Prim.Native.Nat.{◌-◌}
 use Rattle.float_root.proofs.WholeRoot.{whole_root_is}
 use Rattle.float_root.proofs.whole_root.Goals as goal
 
