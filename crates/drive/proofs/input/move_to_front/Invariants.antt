@@ -1,4 +1,4 @@
--- `drive::input::move_to_front` is safe and ends. Assumes nothing.
+-- `drive::input::move_to_front` is safe and ends: a byte moves to the front or stays. Assumes nothing.
 use Prim.Native.Nat.{◌-◌, ◌≤◌}
 use Rattle.drive.proofs.input.move_to_front.Given as goal
 
