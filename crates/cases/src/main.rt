@@ -6,7 +6,6 @@ mod running;
 mod sessions;
 
 use float::F32Bits;
-use libc::STDOUT_FILENO;
 use model_damiao::damiao_models;
 use model_list::{ModelLimits, Names, model_limits, no_names, places};
 use model_query::Query;
@@ -15,15 +14,16 @@ use model_suggest::suggest_models_by_limits;
 use motor_core::name::Name;
 use protocol_feedback::Decoded;
 use protocol_frame::Command;
+use std::io::Print;
 
-pub(crate) fn text(words: &[u8]) {
-    io::write_all(STDOUT_FILENO, words);
+pub(crate) fn text(rt: &impl Print, words: &[u8]) {
+    let _ = rt.write_all(words);
 }
 
-pub(crate) fn line(name: &[u8], number: u64) {
-    text(name);
-    io::print_hex(STDOUT_FILENO, number, 1);
-    text(b"\n");
+pub(crate) fn line(rt: &impl Print, name: &[u8], number: u64) {
+    text(rt, name);
+    let _ = print!(rt; "{number:x}");
+    text(rt, b"\n");
 }
 
 // The position code that an MIT frame carries, with the same limit three times.
@@ -51,39 +51,39 @@ fn bits(x: f32) -> u64 {
     pattern.0 as u64
 }
 
-fn first(bytes: &[u8], len: usize) {
+fn first(rt: &impl Print, bytes: &[u8], len: usize) {
     if len <= bytes.len() {
-        text(&bytes[0..len]);
+        text(rt, &bytes[0..len]);
     }
 }
 
 // A space and the name.
-fn word(name: Name) {
+fn word(rt: &impl Print, name: Name) {
     let bytes = name.bytes;
-    text(b" ");
-    first(&bytes, name.len as usize);
+    text(rt, b" ");
+    first(rt, &bytes, name.len as usize);
 }
 
-fn words(names: Names) {
+fn words(rt: &impl Print, names: Names) {
     let held = names.names;
     let count = places(names.count);
     for i in 0..count {
         let name = held[i];
-        word(name);
+        word(rt, name);
     }
 }
 
 // The models nearest to a query, in their order.
-fn nearest(name: &[u8], query: Query, count: usize) {
+fn nearest(rt: &impl Print, name: &[u8], query: Query, count: usize) {
     let listing = suggest_models_by_limits(damiao_models(), query, count);
     let names = listing.names;
-    text(name);
-    words(names);
-    text(b"\n");
+    text(rt, name);
+    words(rt, names);
+    text(rt, b"\n");
 }
 
 // All models as they are shown.
-fn shown() {
+fn shown(rt: &impl Print) {
     let all = suggest_models_by_limits(
         damiao_models(),
         Query {
@@ -94,13 +94,13 @@ fn shown() {
         16,
     );
     let names = all.names;
-    text(b"nearest to 12.5, 20, 28, as they are shown:");
-    words(display_models(names));
-    text(b"\n");
+    text(rt, b"nearest to 12.5, 20, 28, as they are shown:");
+    words(rt, display_models(names));
+    text(rt, b"\n");
 }
 
 // One name twice, under which two models are shown.
-fn shown_once() {
+fn shown_once(rt: &impl Print) {
     let mut names = no_names();
     names.names[0] = Name {
         bytes: *b"4340X          ",
@@ -115,55 +115,60 @@ fn shown_once() {
         len: 5,
     };
     names.count = 3;
-    text(b"4340X 4340_v20 4340X are shown as:");
-    words(display_models(names));
-    text(b"\n");
+    text(rt, b"4340X 4340_v20 4340X are shown as:");
+    words(rt, display_models(names));
+    text(rt, b"\n");
 }
 
 // A model's maxima by its name, or the refusal.
-fn limits(name: &[u8]) {
-    text(b"limits of ");
-    text(name);
+fn limits(rt: &impl Print, name: &[u8]) {
+    text(rt, b"limits of ");
+    text(rt, name);
     let found = model_limits(damiao_models(), name);
     match found {
         ModelLimits::Limits(maxima) => {
-            float_bits(maxima.p_max);
-            float_bits(maxima.v_max);
-            float_bits(maxima.t_max);
+            float_bits(rt, maxima.p_max);
+            float_bits(rt, maxima.v_max);
+            float_bits(rt, maxima.t_max);
         }
         ModelLimits::Refused(n) => {
-            text(b" refused ");
-            io::print_decimal(STDOUT_FILENO, n as u64);
+            text(rt, b" refused ");
+            let _ = print!(rt; "{n}");
         }
     }
-    text(b"\n");
+    text(rt, b"\n");
 }
 
-fn float_bits(x: f32) {
-    text(b" ");
-    io::print_hex(STDOUT_FILENO, bits(x), 8);
+fn float_bits(rt: &impl Print, x: f32) {
+    text(rt, b" ");
+    let pattern = bits(x);
+    let _ = print!(rt; "{pattern:08x}");
 }
 
-fn main() {
+fn main(rt: HostRuntime) {
     // Encoding a decoded code does not always give that code.
     let decoded = position(F32Bits(0x4148_0000), 0x00, 0x01);
-    line(b"limit 12.5, code 1 decodes to ", bits(decoded));
+    line(&rt, b"limit 12.5, code 1 decodes to ", bits(decoded));
     line(
+        &rt,
         b"and encodes again to ",
         position_code(F32Bits(0x4148_0000), decoded),
     );
     // The maximum does not always encode to the largest code.
     let high = F32Bits(0x3f80_8001);
     line(
+        &rt,
         b"limit 3F808001 at its maximum encodes to ",
         position_code(high, float::of_bits(high)),
     );
     // A decoded value does not always lie within the limits.
     line(
+        &rt,
         b"limit 3F808000, code FFFF decodes to ",
         bits(position(F32Bits(0x3f80_8000), 0xff, 0xff)),
     );
     nearest(
+        &rt,
         b"nearest three to 12.5, 30, 10:",
         Query {
             p: 12.5,
@@ -174,6 +179,7 @@ fn main() {
     );
     // 8006 has the smaller square, but the roots round alike, so the list's order decides.
     nearest(
+        &rt,
         b"nearest ten to C692A844, 46A12838, C7276C48:",
         Query {
             p: float::of_bits(F32Bits(0xc692_a844)),
@@ -182,10 +188,10 @@ fn main() {
         },
         10,
     );
-    shown();
-    shown_once();
-    limits(b"6248P");
-    limits(b"6248");
-    sessions::run();
-    running::run();
+    shown(&rt);
+    shown_once(&rt);
+    limits(&rt, b"6248P");
+    limits(&rt, b"6248");
+    sessions::run(&rt);
+    running::run(&rt);
 }

@@ -1,7 +1,6 @@
 // What runs want and come to where it is easily believed otherwise; runs that no start makes.
 use crate::sessions::{of_motor, started, take};
 use crate::text;
-use libc::STDOUT_FILENO;
 use registers::RegisterDataType;
 use run_machine::{Machine, RunResult};
 use run_wait::Wait;
@@ -11,6 +10,7 @@ use session::{Phase, Run, Session};
 use session_answer::{AfterCall, answer_run};
 use session_begin::{ensure_control_mode, get_register_f32, get_register_u32, write_register_u32};
 use session_step::{Told, Wanted};
+use std::io::Print;
 use time::{Duration, Instant};
 
 const MINUTE: Duration = Duration(60_000_000_000);
@@ -49,52 +49,52 @@ fn begun(motor_id: u16, begin: Begin) -> AfterCall {
     }
 }
 
-fn put_told(told: Told) {
+fn put_told(rt: &impl Print, told: Told) {
     match told {
-        Told::Want(want) => put_want(want),
-        Told::Result(result) => put_result(result),
-        Told::Refused(_) => text(b" refused"),
+        Told::Want(want) => put_want(rt, want),
+        Told::Result(result) => put_result(rt, result),
+        Told::Refused(_) => text(rt, b" refused"),
     }
 }
 
-fn put_want(want: Wanted) {
+fn put_want(rt: &impl Print, want: Wanted) {
     match want {
-        Wanted::Clock => text(b" clock"),
-        Wanted::Send(id, data) => put_send(id, data),
-        Wanted::Sleep(_) => text(b" sleep"),
+        Wanted::Clock => text(rt, b" clock"),
+        Wanted::Send(id, data) => put_send(rt, id, data),
+        Wanted::Sleep(_) => text(rt, b" sleep"),
     }
 }
 
-fn put_send(id: u32, data: u64) {
-    text(b" send ");
-    io::print_hex(STDOUT_FILENO, id as u64, 1);
-    text(b" ");
-    io::print_hex(STDOUT_FILENO, data, 16);
+fn put_send(rt: &impl Print, id: u32, data: u64) {
+    text(rt, b" send ");
+    let _ = print!(rt; "{id:x}");
+    text(rt, b" ");
+    let _ = print!(rt; "{data:016x}");
 }
 
-fn put_result(res: RunResult) {
+fn put_result(rt: &impl Print, res: RunResult) {
     match res {
-        RunResult::Done => text(b" done"),
-        RunResult::Value(_) => text(b" value"),
-        RunResult::State(_) => text(b" state"),
-        RunResult::NoState => text(b" no state"),
-        RunResult::Failed(failure) => put_failure(failure),
+        RunResult::Done => text(rt, b" done"),
+        RunResult::Value(_) => text(rt, b" value"),
+        RunResult::State(_) => text(rt, b" state"),
+        RunResult::NoState => text(rt, b" no state"),
+        RunResult::Failed(failure) => put_failure(rt, failure),
     }
 }
 
-fn put_failure(failure: Failure) {
+fn put_failure(rt: &impl Print, failure: Failure) {
     match failure {
-        Failure::Timeout => text(b" timeout"),
-        Failure::Mismatch(_) => text(b" mismatch"),
-        Failure::WrongType => text(b" wrong type"),
-        Failure::SendFailed => text(b" send failed"),
+        Failure::Timeout => text(rt, b" timeout"),
+        Failure::Mismatch(_) => text(rt, b" mismatch"),
+        Failure::WrongType => text(rt, b" wrong type"),
+        Failure::SendFailed => text(rt, b" send failed"),
     }
 }
 
 // Prints what a start or an answer returns.
-fn told(turn: AfterCall) -> Session {
+fn told(rt: &impl Print, turn: AfterCall) -> Session {
     let told = turn.told;
-    put_told(told);
+    put_told(rt, told);
     turn.session
 }
 
@@ -104,12 +104,12 @@ fn head(session: Session, data: u64) -> Session {
 }
 
 // A step by its letter: a frame, stamped 6, or an answer, of which a reading is 5 to 7.
-fn step(session: Session, letter: u8) -> Session {
+fn step(rt: &impl Print, session: Session, letter: u8) -> Session {
     let data = data_of(letter);
     if data > 0 {
         return head(session, data);
     }
-    told(answer_run(session, answer_of(letter)))
+    told(rt, answer_run(session, answer_of(letter)))
 }
 
 // The bytes of a frame, or 0 for an answer.
@@ -137,41 +137,43 @@ fn answer_of(letter: u8) -> Answer {
     }
 }
 
-fn steps(session: Session, letters: &[u8]) {
+fn steps(rt: &impl Print, session: Session, letters: &[u8]) {
     let mut session = session;
     for i in 0..letters.len() {
-        session = step(session, letters[i]);
+        session = step(rt, session, letters[i]);
     }
 }
 
 // A run of this motor from its beginning on, and what each of its steps returns.
-fn play(name: &[u8], motor_id: u16, begin: Begin, letters: &[u8]) {
-    text(name);
-    steps(told(begun(motor_id, begin)), letters);
-    text(b"\n");
+fn play(rt: &impl Print, name: &[u8], motor_id: u16, begin: Begin, letters: &[u8]) {
+    text(rt, name);
+    steps(rt, told(rt, begun(motor_id, begin)), letters);
+    text(rt, b"\n");
 }
 
 // A mode switch of motor 1.
-fn switch(name: &[u8], mode: u32, timeout: Duration, letters: &[u8]) {
-    play(name, 1, Begin::Mode(mode, timeout), letters);
+fn switch(rt: &impl Print, name: &[u8], mode: u32, timeout: Duration, letters: &[u8]) {
+    play(rt, name, 1, Begin::Mode(mode, timeout), letters);
 }
 
-fn switches() {
+fn switches(rt: &impl Print) {
     // A failed send in a mode read ends the switch only where it did not time out.
     switch(
+        rt,
         b"a switch, its first send failed as timeout:",
         1,
         MINUTE,
         b"555t",
     );
-    switch(b"otherwise:", 1, MINUTE, b"555f");
+    switch(rt, b"otherwise:", 1, MINUTE, b"555f");
     // At the deadline 0 ns remain, and the mode is still read.
-    switch(b"a switch at its deadline:", 1, Duration(0), b"555s5");
-    switch(b"past it:", 1, Duration(0), b"57");
+    switch(rt, b"a switch at its deadline:", 1, Duration(0), b"555s5");
+    switch(rt, b"past it:", 1, Duration(0), b"57");
     // The velocity mode's switch does not read register 80.
-    switch(b"to the velocity mode:", 3, MINUTE, b"555tssss");
+    switch(rt, b"to the velocity mode:", 3, MINUTE, b"555tssss");
     // A NaN's bits travel, to the frames that clear and to the one that holds.
     switch(
+        rt,
         b"with the position 7FC12345:",
         2,
         MINUTE,
@@ -179,12 +181,14 @@ fn switches() {
     );
     // A clearing frame may have the read's id and bytes.
     play(
+        rt,
         b"motor 4FF, position 0A3304FF:",
         0x4ff,
         Begin::Mode(1, MINUTE),
         b"555t55pssss",
     );
     play(
+        rt,
         b"motor 6FF, position 0A3306FF:",
         0x6ff,
         Begin::Mode(1, MINUTE),
@@ -206,15 +210,19 @@ fn with_run(session: Session, run: Run) -> Session {
 }
 
 // A session with this read open, answered once.
-fn made_up(name: &[u8], rid: u8, timeout: Duration, ask: Ask, answer: Answer) {
-    text(name);
-    told(answer_run(with_run(started(), reading(rid, timeout, ask)), answer));
-    text(b"\n");
+fn made_up(rt: &impl Print, name: &[u8], rid: u8, timeout: Duration, ask: Ask, answer: Answer) {
+    text(rt, name);
+    told(
+        rt,
+        answer_run(with_run(started(), reading(rid, timeout, ask)), answer),
+    );
+    text(rt, b"\n");
 }
 
-pub(crate) fn run() {
+pub(crate) fn run(rt: &impl Print) {
     // A read opens before its send: a reply that comes between the two counts.
     play(
+        rt,
         b"a read, its reply before the sent:",
         1,
         Begin::GetU32(MINUTE),
@@ -222,6 +230,7 @@ pub(crate) fn run() {
     );
     // A write opens after its send: an ack that comes before the opening does not count.
     play(
+        rt,
         b"a write, its ack before the sent:",
         1,
         Begin::WriteU32(1),
@@ -229,18 +238,20 @@ pub(crate) fn run() {
     );
     // Register 10 holds a whole number; reading it as a float is sent all the same.
     play(
+        rt,
         b"register 10 as a float, with its reply:",
         1,
         Begin::GetF32(Duration(0)),
         b"5rs",
     );
-    play(b"without:", 1, Begin::GetF32(Duration(0)), b"5s5");
-    switches();
-    made_up_runs();
+    play(rt, b"without:", 1, Begin::GetF32(Duration(0)), b"5s5");
+    switches(rt);
+    made_up_runs(rt);
 }
 
-fn made_up_runs() {
+fn made_up_runs(rt: &impl Print) {
     made_up(
+        rt,
         b"opening FFFFFFFFFFFFFFFF, length 3, reading 5:",
         10,
         Duration(3),
@@ -248,6 +259,7 @@ fn made_up_runs() {
         Answer::Reading(Instant(5)),
     );
     made_up(
+        rt,
         b"opening 5, length FFFFFFFFFFFFFFFF, reading 5:",
         10,
         Duration(u64::MAX),
@@ -255,6 +267,7 @@ fn made_up_runs() {
         Answer::Reading(Instant(5)),
     );
     made_up(
+        rt,
         b"register FF, a look:",
         255,
         MINUTE,

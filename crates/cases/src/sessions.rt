@@ -9,6 +9,7 @@ use session_frame::{AfterFrame, FrameOutcome};
 use session_lent::take_frame;
 use state_cache::{Cached, Entry, cached_entry};
 use state_feedback::Latest;
+use std::io::Print;
 use time::Instant;
 
 const FEEDBACK: u64 = 0x1100_0000_0000_1e28;
@@ -90,21 +91,21 @@ fn counted(session: Session, sequence: u64) -> Session {
 }
 
 // The number that the next record has.
-fn next_number(name: &[u8], session: Session, reading: u64) -> Session {
+fn next_number(rt: &impl Print, name: &[u8], session: Session, reading: u64) -> Session {
     let taking = take(session, FEEDBACK, reading);
-    put_number(name, taking.session);
+    put_number(rt, name, taking.session);
     taking.session
 }
 
-fn put_number(name: &[u8], session: Session) {
-    line(name, record_number(session.head));
+fn put_number(rt: &impl Print, name: &[u8], session: Session) {
+    line(rt, name, record_number(session.head));
 }
 
 // The number of the record that the second last and the last number lead to.
-fn numbers_end() {
+fn numbers_end(rt: &impl Print) {
     let session = counted(started(), u64::MAX - 1);
-    let session = next_number(b"after number FFFFFFFFFFFFFFFE comes ", session, 1);
-    next_number(b"and after that ", session, 2);
+    let session = next_number(rt, b"after number FFFFFFFFFFFFFFFE comes ", session, 1);
+    next_number(rt, b"and after that ", session, 2);
 }
 
 fn at_five() -> Session {
@@ -113,15 +114,16 @@ fn at_five() -> Session {
 }
 
 // A frame with this reading after one at 5.
-fn reading(name: &[u8], reading: u64) {
+fn reading(rt: &impl Print, name: &[u8], reading: u64) {
     let taking = take(at_five(), FEEDBACK, reading);
     let outcome = taking.outcome;
-    line(name, refusal(outcome));
+    line(rt, name, refusal(outcome));
 }
 
-fn patch_with_none() {
+fn patch_with_none(rt: &impl Print) {
     let patched = session::patch_latest(started(), 0, 0, 0);
     line(
+        rt,
         b"a patch before the first record answers ",
         patched.patched as u64,
     );
@@ -139,16 +141,16 @@ fn reply(session: Session, rid: u8) -> Cached {
 }
 
 // What is cached of a register's reply after 0F 33: its bits, or 0 with none; or the refusal.
-fn cached(name: &[u8], rid: u8) {
-    put_cached(name, reply(ten_is_one(), rid));
+fn cached(rt: &impl Print, name: &[u8], rid: u8) {
+    put_cached(rt, name, reply(ten_is_one(), rid));
 }
 
-fn put_cached(name: &[u8], found: Cached) {
+fn put_cached(rt: &impl Print, name: &[u8], found: Cached) {
     match found {
-        Cached::Entry(entry) => line(name, bits_of(entry)),
+        Cached::Entry(entry) => line(rt, name, bits_of(entry)),
         Cached::Refused(number) => {
-            text(name);
-            line(b"refused ", number as u64);
+            text(rt, name);
+            line(rt, b"refused ", number as u64);
         }
     }
 }
@@ -161,33 +163,33 @@ fn bits_of(entry: Entry) -> u64 {
 }
 
 // The refusal of a start with the motor id FD00.
-fn limit_refusal(name: &[u8], p_max: f32) {
+fn limit_refusal(rt: &impl Print, name: &[u8], p_max: f32) {
     let start = with_limit(0xfd00, p_max);
     let outcome = start.outcome;
-    line(name, start_refusal(outcome));
+    line(rt, name, start_refusal(outcome));
 }
 
-fn model_refusal(name: &[u8], model: &[u8]) {
+fn model_refusal(rt: &impl Print, name: &[u8], model: &[u8]) {
     let start = from_model(0xfd00, 0x11, damiao_models(), model);
     let outcome = start.outcome;
-    line(name, start_refusal(outcome));
+    line(rt, name, start_refusal(outcome));
 }
 
-pub(crate) fn run() {
-    numbers_end();
-    cached(b"register 10 after 0F 33: ", 10);
-    cached(b"register 9: ", 9);
-    cached(b"register 37: ", 37);
-    readings();
-    patch_with_none();
-    limit_refusal(b"start with limit 0 and motor id FD00: ", 0.0);
-    model_refusal(b"with an unknown name and motor id FD00: ", b"4311");
-    model_refusal(b"with motor id FD00: ", b"4310");
+pub(crate) fn run(rt: &impl Print) {
+    numbers_end(rt);
+    cached(rt, b"register 10 after 0F 33: ", 10);
+    cached(rt, b"register 9: ", 9);
+    cached(rt, b"register 37: ", 37);
+    readings(rt);
+    patch_with_none(rt);
+    limit_refusal(rt, b"start with limit 0 and motor id FD00: ", 0.0);
+    model_refusal(rt, b"with an unknown name and motor id FD00: ", b"4311");
+    model_refusal(rt, b"with motor id FD00: ", b"4310");
 }
 
-fn readings() {
-    reading(b"after reading 5, refusal of 5: ", 5);
-    reading(b"of 4: ", 4);
-    reading(b"of 4000000000000000: ", 0x4000_0000_0000_0000);
-    reading(b"of 4000000000000001: ", 0x4000_0000_0000_0001);
+fn readings(rt: &impl Print) {
+    reading(rt, b"after reading 5, refusal of 5: ", 5);
+    reading(rt, b"of 4: ", 4);
+    reading(rt, b"of 4000000000000000: ", 0x4000_0000_0000_0000);
+    reading(rt, b"of 4000000000000001: ", 0x4000_0000_0000_0001);
 }

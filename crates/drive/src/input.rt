@@ -1,7 +1,7 @@
 // The lines of the input, however it is cut by the reads.
-use libc::{STDERR_FILENO, STDIN_FILENO};
 use script::MAX_LINE;
 use script_words::index_of;
+use std::io::{Print, Read};
 
 // A line, from `from` to `end`, and the bytes that are read, from `next` to `filled`. Either may be
 // the rest of a line that is too long. Where no whole line is left (`is_dry`) the line is empty, and
@@ -52,9 +52,14 @@ pub(crate) fn line_at(input: &[u8], place: Place) -> &[u8] {
     &input[0..0]
 }
 
-pub(crate) fn next_line(input: &mut [u8], place: Place) -> Place {
+pub(crate) fn next_line(
+    stdin: &mut impl Read,
+    stderr: &impl Print,
+    input: &mut [u8],
+    place: Place,
+) -> Place {
     if place.is_dry {
-        let more = read_more(input, place);
+        let more = read_more(stdin, stderr, input, place);
         return first_line(input, more);
     }
     first_line(input, place)
@@ -101,10 +106,10 @@ fn newline(input: &[u8], from: usize, filled: usize) -> usize {
 
 // Reads once, after the unfinished line. At the end of the input that is the last line, and a newline
 // is put after it.
-fn read_more(input: &mut [u8], place: Place) -> Place {
+fn read_more(stdin: &mut impl Read, stderr: &impl Print, input: &mut [u8], place: Place) -> Place {
     let rest = keep_rest(input, place.next, place.filled, place.is_rest_long);
     let held = rest.held;
-    let read = read_after(input, held);
+    let read = read_after(stdin, stderr, input, held);
     let mut more = place;
     more.next = 0;
     more.is_rest_long = rest.is_long;
@@ -118,20 +123,21 @@ fn read_more(input: &mut [u8], place: Place) -> Place {
 }
 
 // Reads after the bytes that are held, and answers where the bytes end.
-fn read_after(input: &mut [u8], held: usize) -> usize {
+fn read_after(stdin: &mut impl Read, stderr: &impl Print, input: &mut [u8], held: usize) -> usize {
     if held >= input.len() {
         return 0;
     }
-    let got = libc::read(STDIN_FILENO, &mut input[held..]);
-    if got < 0 {
-        complain(b"drive: the input cannot be read\n");
+    match stdin.read(&mut input[held..]) {
+        Ok(n) => held + n,
+        Err(_) => {
+            complain(stderr, b"drive: the input cannot be read\n");
+            held
+        }
     }
-    let n = io::count(got, &input[held..]);
-    held + n
 }
 
-pub(crate) fn complain(line: &[u8]) {
-    io::write_all(STDERR_FILENO, line);
+pub(crate) fn complain(stderr: &impl Print, line: &[u8]) {
+    let _ = stderr.write_all(line);
 }
 
 fn end_line(input: &mut [u8], held: usize) -> usize {

@@ -7,8 +7,8 @@ use crate::input::{Place, before_first, complain, line_at, next_line};
 use crate::notes::note;
 use crate::sessions;
 use crate::sessions::unstarted;
-use libc::{STDERR_FILENO, STDOUT_FILENO};
 use script::{Call, calls, faults};
+use std::io::{Print, Read};
 use text::put;
 
 // The output is written once it has so many bytes. The rest of its buffer has room for any answer;
@@ -18,23 +18,30 @@ const FULL: usize = 49_152;
 // Reads and answers to the end of the input, or until an answer cannot be written. A proved loop has
 // to end, and nothing says that the input does, so the turns are counted down from a number that no
 // run uses up. The session is large, so that only the calls on it copy it.
-pub(crate) fn run(input: &mut [u8], output: &mut [u8], notes: &mut [u8]) {
+pub(crate) fn run(
+    stdin: &mut impl Read,
+    stdout: &impl Print,
+    stderr: &impl Print,
+    input: &mut [u8],
+    output: &mut [u8],
+    notes: &mut [u8],
+) {
     let mut state = unstarted();
     let mut place = before_first();
     let mut noted = 0;
     let mut turns = u64::MAX;
     while turns > 0 {
-        place = next_line(input, place);
+        place = next_line(stdin, stderr, input, place);
         let line = line_at(input, place);
         let call = call_of(line, place.is_long, state.is_started);
         if call.code <= calls::SESSION {
             state = sessions::answer(state, call, line, output);
         }
-        state.to = end_answer(call, output, state.to, place.is_dry);
-        noted = put_note(call, line, place, notes, noted);
+        state.to = end_answer(stdout, call, output, state.to, place.is_dry);
+        noted = put_note(stderr, call, line, place, notes, noted);
         turns = turns_left(turns, place, state.to);
     }
-    finish(state.to);
+    finish(stderr, state.to);
 }
 
 fn call_of(line: &[u8], is_long: bool, is_started: bool) -> Call {
@@ -61,15 +68,21 @@ fn code_for(code: u64, is_started: bool) -> u64 {
 
 // Puts the answer where the call is none on the session, and its newline, writes out what has gathered
 // if more is to be read or it is much, and answers where the output goes on.
-fn end_answer(call: Call, output: &mut [u8], to: usize, is_dry: bool) -> usize {
+fn end_answer(
+    stdout: &impl Print,
+    call: Call,
+    output: &mut [u8],
+    to: usize,
+    is_dry: bool,
+) -> usize {
     let at = put_answer(call, output, to);
     if is_dry {
-        return rest_after(output, at);
+        return rest_after(stdout, output, at);
     }
     if at < FULL {
         return at;
     }
-    rest_after(output, at)
+    rest_after(stdout, output, at)
 }
 
 fn put_answer(call: Call, output: &mut [u8], to: usize) -> usize {
@@ -85,9 +98,9 @@ fn put_answer(call: Call, output: &mut [u8], to: usize) -> usize {
 }
 
 // Writes out what has gathered, and answers what is left of it: nothing, or all where a write failed.
-fn rest_after(output: &[u8], to: usize) -> usize {
+fn rest_after(stdout: &impl Print, output: &[u8], to: usize) -> usize {
     if to <= output.len() {
-        if io::write_all(STDOUT_FILENO, &output[0..to]) {
+        if stdout.write_all(&output[0..to]).is_ok() {
             return 0;
         }
     }
@@ -95,7 +108,14 @@ fn rest_after(output: &[u8], to: usize) -> usize {
 }
 
 // The same for what is said of bad lines on standard error. What cannot be written there is dropped.
-fn put_note(call: Call, line: &[u8], place: Place, notes: &mut [u8], to: usize) -> usize {
+fn put_note(
+    stderr: &impl Print,
+    call: Call,
+    line: &[u8],
+    place: Place,
+    notes: &mut [u8],
+    to: usize,
+) -> usize {
     let at = note(call, line, place.number, notes, to);
     if !place.is_dry {
         if at < FULL {
@@ -103,7 +123,7 @@ fn put_note(call: Call, line: &[u8], place: Place, notes: &mut [u8], to: usize) 
         }
     }
     if at <= notes.len() {
-        io::write_all(STDERR_FILENO, &notes[0..at]);
+        let _ = stderr.write_all(&notes[0..at]);
     }
     0
 }
@@ -123,8 +143,8 @@ fn turns_left(turns: u64, place: Place, unwritten: usize) -> u64
     if turns > 0 { turns - 1 } else { 0 }
 }
 
-fn finish(unwritten: usize) {
+fn finish(stderr: &impl Print, unwritten: usize) {
     if unwritten > 0 {
-        complain(b"drive: the output cannot be written\n");
+        complain(stderr, b"drive: the output cannot be written\n");
     }
 }

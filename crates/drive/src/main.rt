@@ -19,9 +19,19 @@ mod session_text;
 mod sessions;
 mod values;
 
-fn main() {
-    let mut input = io::large_buffer();
-    let mut output = io::large_buffer();
-    let mut notes = io::large_buffer();
-    lines::run(&mut input, &mut output, &mut notes);
+// Of the bytes that are read, and of those that gather until they are written.
+const BUFFER: usize = 65_536;
+
+fn main(rt: HostRuntime) {
+    let mut input = [0u8; BUFFER];
+    let mut output = [0u8; BUFFER];
+    let mut notes = [0u8; BUFFER];
+    lines::run(
+        &mut rt.stdin(),
+        &rt.stdout(),
+        &rt.stderr(),
+        &mut input,
+        &mut output,
+        &mut notes,
+    );
 }

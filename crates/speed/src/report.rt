@@ -1,18 +1,24 @@
 // A row is timed and printed: its name, how many calls it made, their checksum and, where times are
 // asked for, the nanoseconds that they took.
-use libc::STDOUT_FILENO;
+use std::io::Print;
+use std::time::{CpuClock, Duration};
 
-fn not_negative(number: i64) -> u64 {
-    if number > 0 { number as u64 } else { 0 }
+fn microseconds(time: Duration) -> u64 {
+    let whole = time.as_secs().wrapping_mul(1_000_000);
+    whole.wrapping_add(u64::from(time.subsec_micros()))
 }
 
-// The processor time of this program so far, in microseconds, which is what C's clock counts.
-pub(crate) fn clock() -> u64 {
-    not_negative(libc::clock())
+// The processor time of this program so far, in microseconds, which is what C's clock counts. 0 where
+// it cannot be read.
+pub(crate) fn clock(rt: &impl CpuClock) -> u64 {
+    match rt.process_cpu_time() {
+        Ok(time) => microseconds(time),
+        Err(_) => 0,
+    }
 }
 
-fn text(words: &[u8]) {
-    io::write_all(STDOUT_FILENO, words);
+fn text(rt: &impl Print, words: &[u8]) {
+    let _ = rt.write_all(words);
 }
 
 fn nanoseconds(begun: u64, ended: u64) -> u64 {
@@ -23,16 +29,20 @@ fn nanoseconds(begun: u64, ended: u64) -> u64 {
     0
 }
 
-pub(crate) fn finish(name: &[u8], calls: usize, sum: u64, begun: u64, timed: bool) {
-    let ended = clock();
-    text(name);
-    text(b"\t");
-    io::print_decimal(STDOUT_FILENO, calls as u64);
-    text(b"\t");
-    io::print_hex(STDOUT_FILENO, sum, 16);
+pub(crate) fn finish(
+    rt: &(impl Print + CpuClock),
+    name: &[u8],
+    calls: usize,
+    sum: u64,
+    begun: u64,
+    timed: bool,
+) {
+    let ended = clock(rt);
+    text(rt, name);
+    let _ = print!(rt; "\t{calls}\t{sum:016x}");
     if timed {
-        text(b"\t");
-        io::print_decimal(STDOUT_FILENO, nanoseconds(begun, ended));
+        let took = nanoseconds(begun, ended);
+        let _ = print!(rt; "\t{took}");
     }
-    text(b"\n");
+    text(rt, b"\n");
 }
