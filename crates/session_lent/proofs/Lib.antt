@@ -1,3 +1,1 @@
 pub mod ByParts
-pub mod Elements
-pub mod Lending
