@@ -1,10 +1,9 @@
 -- A frame as it is sorted, from what the lookup of its register says. Assumes nothing.
 use Rattle.motor_core.proofs.Turned.{clash}
-use mathlib.Core.Path.{◌≡◌, refl, sym, ap, ◌∙◌}
+use mathlib.Core.Path.{◌≡◌, refl, ap, ◌∙◌}
 use mathlib.Core.Bool.{Bool, true, false, cond}
 use mathlib.Core.List.{List}
 use Prim.Native.Nat.{ℕ}
-use native.Mathlib.Omega.{arith}
 use Rattle.motor_core.specs.declared.model.PvTLimits.{PvTLimits}
 use Rattle.registers.specs.Registers.{known, access_of, data_type_of, info_of}
 use Rattle.registers.specs.declared.RegisterAccess.{RegisterAccess}

@@ -30,7 +30,7 @@ pub fn index_of(s: &[u8], from: usize, byte: u8) -> usize
     i
 }
 
-// The word after the first: the name in a line of `start_model`. Empty where there is none.
+// The word after the first: the name in a line of `start-model`. Empty where there is none.
 pub fn second_word(line: &[u8]) -> &[u8]
     ensures { result.now ≡ second (split line.now) }
 {

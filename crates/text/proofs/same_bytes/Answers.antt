@@ -1,5 +1,4 @@
 -- `text::same_bytes` meets its contract. The invariant: the slices are the same where their rests from i on are. Assumes nothing.
-use Prim.Native.Nat.{◌-◌}
 use mathlib.Core.Path.{sym, ◌∙◌}
 use native.Mathlib.Omega.{arith}
 use Rattle.text.proofs.Same.{same_length, same_next, same_not, same_end}

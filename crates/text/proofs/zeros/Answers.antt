@@ -1,5 +1,5 @@
 -- `text::zeros` meets its contract. The invariant: only zeros have been passed, and never the last digit. Assumes nothing.
-use Prim.Native.Nat.{ℕ, ◌-◌}
+use Prim.Native.Nat.{ℕ}
 use mathlib.Core.Path.{refl, sym, ap, ◌∙◌}
 use native.Mathlib.Omega.{arith}
 use lib.ListN.{drop}
@@ -12,12 +12,11 @@ returns-then-text-i-ne48 c = let l = c.loop-next in
     (omega arith, sym (l.invariant.2 ∙ not_zero c.args.text.now l.i (omega arith) c.if-text-i-ne48.true))
 
 pub loop-next-preserved : goal.loop-next-preserved
-loop-next-preserved c = let l = c.loop-next in
-    (
-      refl,
-      omega arith,
-      l.invariant.2 ∙ a_zero c.args.text.now l.i (omega arith) c.if-text-i-ne48.false ∙ ap (λ (n : ℕ). trimmed (drop n c.args.text.now)) (sym l.invariant.0),
-    )
+loop-next-preserved c = let l = c.loop-next in (
+  refl,
+  omega arith,
+  l.invariant.2 ∙ a_zero c.args.text.now l.i (omega arith) c.if-text-i-ne48.false ∙ ap (λ (n : ℕ). trimmed (drop n c.args.text.now)) (sym l.invariant.0),
+)
 
 pub returns : goal.returns
 returns c = let l = c.loop-next in

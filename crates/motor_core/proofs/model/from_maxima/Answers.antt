@@ -20,15 +20,15 @@ returns-then-not-accepts_limit-2 c = simp (tested _ _ _ c.accepts_limit.ensures 
 pub returns-then-not-accepts_limit-3 : goal.returns-then-not-accepts_limit-3
 unfolding limits_of
 returns-then-not-accepts_limit-3 c = simp (
-      tested _ _ _ c.accepts_limit.ensures c.if-not-accepts_limit.false,
-      tested _ _ _ c.accepts_limit-2.ensures c.if-not-accepts_limit-2.false,
-      tested _ _ _ c.accepts_limit-3.ensures c.if-not-accepts_limit-3.true,
-    )
+  tested _ _ _ c.accepts_limit.ensures c.if-not-accepts_limit.false,
+  tested _ _ _ c.accepts_limit-2.ensures c.if-not-accepts_limit-2.false,
+  tested _ _ _ c.accepts_limit-3.ensures c.if-not-accepts_limit-3.true,
+)
 
 pub returns : goal.returns
 unfolding limits_of
 returns c = simp (
-      tested _ _ _ c.accepts_limit.ensures c.if-not-accepts_limit.false,
-      tested _ _ _ c.accepts_limit-2.ensures c.if-not-accepts_limit-2.false,
-      tested _ _ _ c.accepts_limit-3.ensures c.if-not-accepts_limit-3.false,
-    )
+  tested _ _ _ c.accepts_limit.ensures c.if-not-accepts_limit.false,
+  tested _ _ _ c.accepts_limit-2.ensures c.if-not-accepts_limit-2.false,
+  tested _ _ _ c.accepts_limit-3.ensures c.if-not-accepts_limit-3.false,
+)
