@@ -22,5 +22,5 @@ abbrev pub machine_place : Machine → Place
 machine_place (GetRegister data_type rid timeout ask) = Reply rid
 machine_place (WriteRegister rid value write) = Ack rid
 machine_place (RequestFreshState timeout ask) = Nowhere
-machine_place (StoreParameters store) = Nowhere
+machine_place (StoreParameters _) = Nowhere
 machine_place (EnsureControlMode mode timeout switch) = switch_place switch
