@@ -23,6 +23,7 @@ pub fn of_bits(bits: F32Bits) -> f32
 }
 
 // Rust's `f32::to_bits`, and 7FC00000 for the NaN.
+#[tactic(auto, using(crate::proofs::Nans::no_nan))]
 pub fn to_bits(x: f32) -> F32Bits
     ensures { result.0 ≡ Ieee.to_bits binary32 x }
 {
@@ -40,6 +41,7 @@ pub fn is_nan_pattern(bits: u32) -> bool
 }
 
 // Rust's `x.clamp(min, max)` where min is not above max. A NaN passes through.
+#[tactic(auto, unfolding(crate::specs::Float::clip))]
 pub fn clamp(x: f32, min: f32, max: f32) -> f32
     ensures { result ≡ clip x min max }
 {
@@ -79,6 +81,7 @@ pub fn as_u32(x: f32) -> u32
 }
 
 // Rust's `x as u16`.
+#[tactic(auto, using(crate::proofs::Truncating::narrow))]
 pub fn as_u16(x: f32) -> u16
     ensures { result ≡ Ieee.to_unsigned 16 x }
 {

@@ -20,6 +20,7 @@ fn guess(m: u64) -> u64
 
 // The whole part of m's root: two steps of Newton's method from the guess, then by ones, of which there
 // is hardly ever one to do.
+#[tactic(auto, using(crate::proofs::WholeRoot::whole_root_is))]
 fn whole_root(m: u64) -> u64
     requires { (2 ^ 46 ≤ m) × (m < 2 ^ 48) }
     ensures { result ≡ Spec.whole_root m }
@@ -38,6 +39,7 @@ fn whole_root(m: u64) -> u64
 
 // √(m * 4 ^ k) units of 2 ^ -149, rounded: the whole part of m's root, or one more where the root
 // is past the half.
+#[tactic(auto, using(crate::proofs::RootRound::rounded_down, crate::proofs::RootRound::rounded_up, crate::proofs::WholeRoot::lt_next_sq, crate::proofs::WholeRoot::root_sq_le))]
 fn rounded_root(m: u64, k: u32) -> f32
     requires { (2 ^ 46 ≤ m) × (m < 2 ^ 48) × (51 ≤ k) × (k < 250) }
     ensures { result ≡ Spec.rounded_root (m * 2 ^ (k + k)) }

@@ -3,12 +3,12 @@ use Prim.Native.Nat.{ℕ, suc, ◌+◌, ◌-◌, ◌≤◌, ◌<◌, min}
 use mathlib.Core.Path.{◌≡◌, sym, ap, ◌∙◌, subst}
 use mathlib.Core.Bool.{Bool, true, false, not}
 use mathlib.Core.List.{List, [], ◌∷◌, ◌++◌, append_assoc}
-use native.Mathlib.Nat.{min-eq_left, min-eq_right, min-le_left, le_of_lt, le_of_eq, lt_of_lt_of_le}
+use native.Mathlib.Nat.{min-eq_left, min-eq_right, le_of_lt, le_of_eq}
 use native.Mathlib.Numerals.{add-one}
 use native.Mathlib.Omega.{arith}
 use lib.Dec.{T, leb, leb→le, nleb→lt}
-use lib.ListN.{length, take, drop, get_or, set, replicate, length-append, length-take, drop_of_length-le}
-use lib.Seq.{set-append_seam, take_all, drop-cons, get_or-take}
+use lib.ListN.{length, take, drop, get_or, set, replicate, length-append, length-take}
+use lib.Seq.{set-append_seam, take_all, drop-cons}
 use mir.Val.{Val}
 use denote.Laws.{Is}
 use denote.Struct.Laws as Laws
@@ -76,16 +76,3 @@ take_min n m l e = go (leb n m) (leb→le n m) (nleb→lt n m)
 
 pub drop_next : {A : Type 0} (l : List A) (i : ℕ) (d : A) → i < length l → drop i l ≡ get_or l i d ∷ drop (i + 1) l
 drop_next l i d h = drop-cons l i d h ∙ ap (λ (k : ℕ). get_or l i d ∷ drop k l) (sym (add-one i))
-
--- what a list of m places and a count of n holds from i on
-module _ {A : Type 0} (n m : ℕ) (l : List A) (sized : length l ≡ m) where
-  held_length : length (take n l) ≡ min n m
-  held_length = length-take n l ∙ ap (min n) sized
-
-  pub held_next : (i : ℕ) (d : A) → i < min n m → drop i (take n l) ≡ get_or l i d ∷ drop (i + 1) (take n l)
-  held_next i d h =
-      drop_next (take n l) i d (subst (λ (k : ℕ). i < k) (sym held_length) h)
-      ∙ ap (λ (x : A). x ∷ drop (i + 1) (take n l)) (get_or-take n l i d (lt_of_lt_of_le h (min-le_left n m)))
-
-  pub held_end : (i : ℕ) → min n m ≤ i → drop i (take n l) ≡ []
-  held_end i h = drop_of_length-le (take n l) (subst (λ (k : ℕ). k ≤ i) (sym held_length) h)

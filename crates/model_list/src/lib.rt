@@ -46,6 +46,7 @@ pub enum ModelLimits {
 }
 
 // The list of no names.
+#[tactic(auto, unfolding(crate::specs::Counted::names_of, motor_core::specs::Name::name_of))]
 pub fn no_names() -> Names
     ensures { result ≡ names_of [] }
 {
@@ -71,6 +72,7 @@ pub fn places(count: u8) -> usize
 }
 
 // The maxima of the first model of that name.
+#[tactic(auto, unfolding(crate::specs::Models::limits_by_name))]
 pub fn model_limits(list: ModelList, name: &[u8]) -> ModelLimits
     ensures { result ≡ limits_by_name (models_of list) name.now }
 {

@@ -17,6 +17,7 @@ fn within(tol: f32, x: f32, y: f32) -> bool
     d <= tol && -d <= tol
 }
 
+#[tactic(auto, unfolding(crate::specs::Matching::matches))]
 fn matches(query: Query, tol: f32, spec: MotorModelSpec) -> bool
     ensures { result ≡ Spec.matches query tol spec }
 {
@@ -27,6 +28,7 @@ fn matches(query: Query, tol: f32, spec: MotorModelSpec) -> bool
 }
 
 // Whether the model at place i is one of the first `count` and matches.
+#[tactic(auto, using(model_query::proofs::Tests::neither))]
 fn counts(i: usize, count: usize, query: Query, tol: f32, spec: MotorModelSpec) -> bool
     ensures { result ≡ (ltb i count && Spec.matches query tol spec) }
 {
@@ -73,6 +75,7 @@ fn tried(accepted: bool, count: u8) -> usize
 
 // The models, in the list's order, whose three limits each differ from the query's by no more than
 // the tolerance.
+#[tactic(auto, using(model_list::proofs::Lists::take_min, model_query::proofs::Answers::is_answer), unfolding(crate::specs::Matching::matching_names, model_list::specs::Counted::keep))]
 pub fn match_models_by_limits(list: ModelList, query: Query, tol: f32) -> Listing
     ensures { result ≡ Spec.match_models list query tol }
 {

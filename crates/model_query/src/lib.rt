@@ -36,6 +36,7 @@ fn queryable(x: f32) -> bool
 }
 
 // Whether all three are.
+#[tactic(auto, unfolding(crate::specs::Query::query_accepted))]
 pub fn accepts_query(query: Query) -> bool
     ensures { result ≡ Spec.query_accepted query }
 {

@@ -47,3 +47,6 @@ display_next names i d h =
     ap (λ (k : ℕ). display_after [] (take k names)) (add-one i)
     ∙ ap (display_after []) (take-suc names i d h)
     ∙ display_append [] (take i names) (get_or names i d)
+
+-- the names shown so far, and with the next
+pub ruleset display_rules = (held_again, held_count, with_length, display_next)

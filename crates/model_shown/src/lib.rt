@@ -8,6 +8,7 @@ ghost use Rattle.model_shown.specs.Display as Spec;
 use model_list::{Names, no_names, places};
 use motor_core::name::{Name, same_name, spells};
 
+#[tactic(auto, unfolding(crate::specs::Display::display_name, motor_core::specs::Name::name_of))]
 pub fn display_model_name(model: Name) -> Name
     ensures { result ≡ Spec.display_name model }
 {
@@ -21,6 +22,7 @@ pub fn display_model_name(model: Name) -> Name
 }
 
 // Whether one of the names spells the same.
+#[tactic(auto, unfolding(crate::specs::Display::among))]
 fn among(name: Name, names: Names) -> bool
     ensures { result ≡ Spec.among name (held names) }
 {
@@ -51,6 +53,7 @@ fn with_name(mut names: Names, name: Name) -> Names
 }
 
 // The models' names as they are shown, each once.
+#[tactic(auto, using(crate::proofs::Shown::display_rules), unfolding(crate::specs::Display::display_after))]
 pub fn display_models(models: Names) -> Names
     ensures { result ≡ names_of (Spec.display_after [] (held models)) }
 {

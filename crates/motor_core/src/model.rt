@@ -28,6 +28,7 @@ pub fn accepts_limit(max: f32) -> bool
 }
 
 // The six limits that three maxima stand for.
+#[tactic(auto, unfolding(crate::specs::Model::limits_of))]
 pub fn from_maxima(p_max: f32, v_max: f32, t_max: f32) -> LimitCheck
     ensures { result ≡ limits_of p_max v_max t_max }
 {

@@ -7,6 +7,7 @@ ghost use Rattle.protocol_address.specs.Address.{accepted};
 use motor_core::bus::CanFrame;
 
 // Whether a frame may be this motor's: four bits of the address are compared, as the Rust does.
+#[tactic(auto, unfolding(crate::specs::Address::accepted))]
 pub fn accepts_frame(frame: CanFrame, motor_id: u16, feedback_id: u16) -> bool
     ensures { result ≡ accepted motor_id feedback_id frame }
 {

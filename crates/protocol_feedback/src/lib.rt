@@ -27,6 +27,7 @@ pub enum Decoded {
 }
 
 // What a code stands for, from x_min to x_max.
+#[tactic(auto, unfolding(protocol_codes::specs::Codes::uint_to_float))]
 fn uint_to_float(x: u16, x_min: f32, x_max: f32, width: Width) -> f32
     requires { x < 2 ^ bits_in width }
     ensures { result ≡ uint_to_float (bits_in width) x x_min x_max }
@@ -42,6 +43,7 @@ fn joined(high: u8, low: u8) -> u16
     (high as u16) * 256 + (low as u16)
 }
 
+#[tactic(auto, unfolding(protocol_codes::specs::Codes::uint_to_float))]
 fn position(data: [u8; 8], limits: PvTLimits) -> f32
     ensures { result ≡ Spec.position limits «data» }
 {
@@ -49,6 +51,7 @@ fn position(data: [u8; 8], limits: PvTLimits) -> f32
     uint_to_float(code, limits.p_min, limits.p_max, Width::Sixteen)
 }
 
+#[tactic(auto, unfolding(protocol_codes::specs::Codes::uint_to_float))]
 fn velocity(data: [u8; 8], limits: PvTLimits) -> f32
     ensures { result ≡ Spec.velocity limits «data» }
 {
@@ -56,6 +59,7 @@ fn velocity(data: [u8; 8], limits: PvTLimits) -> f32
     uint_to_float(code, limits.v_min, limits.v_max, Width::Twelve)
 }
 
+#[tactic(auto, unfolding(protocol_codes::specs::Codes::uint_to_float))]
 fn torque(data: [u8; 8], limits: PvTLimits) -> f32
     ensures { result ≡ Spec.torque limits «data» }
 {
@@ -70,6 +74,7 @@ fn temperature(byte: u8) -> f32
 }
 
 // Any six limits: a session's come from `from_maxima`, and the definition holds for others too.
+#[tactic(auto, unfolding(crate::specs::Feedback::feedback_of))]
 pub fn decode_sensor_feedback(data: [u8; 8], limits: PvTLimits) -> SensorFeedback
     ensures { result ≡ Spec.feedback_of limits «data» }
 {
@@ -84,6 +89,7 @@ pub fn decode_sensor_feedback(data: [u8; 8], limits: PvTLimits) -> SensorFeedbac
     }
 }
 
+#[tactic(auto, unfolding(crate::specs::Feedback::decoded))]
 pub fn decode_feedback(p_max: f32, v_max: f32, t_max: f32, data: [u8; 8]) -> Decoded
     ensures { result ≡ Spec.decoded p_max v_max t_max «data» }
 {

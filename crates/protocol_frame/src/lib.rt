@@ -16,6 +16,7 @@ pub enum Command {
 }
 
 // The four bytes of a number, lowest first.
+#[tactic(auto, unfolding(crate::specs::Layout::little_endian, crate::specs::Layout::packed_onto))]
 pub fn reversed(n: u32) -> u32
     ensures { result ≡ packed (little_endian 4 n) }
 {
@@ -32,6 +33,7 @@ fn low_byte(n: u64) -> u8
 }
 
 // The eight data bytes, d0 first, for the caller to send.
+#[tactic(auto, unfolding(crate::specs::Layout::data_bytes))]
 pub fn data_bytes(data: u64) -> [u8; 8]
     ensures { result ≡ data_bytes «data» }
 {
@@ -48,6 +50,7 @@ pub fn data_bytes(data: u64) -> [u8; 8]
 }
 
 // The frame, unless the motor id is refused.
+#[tactic(auto, unfolding(crate::specs::Command::frame_for))]
 pub fn frame_for(motor_id: u16, arbitration_id: u32, data: u64) -> Command
     ensures { result ≡ Spec.frame_for motor_id arbitration_id «data» }
 {

@@ -18,6 +18,7 @@ const SET_ZERO: u64 = 0xffff_ffff_ffff_fffe;
 const CLEAR_ERROR: u64 = 0xffff_ffff_ffff_fffb;
 
 // The motor id, lowest byte first, then two bytes and a word of four.
+#[tactic(auto, unfolding(crate::specs::Request::addressed))]
 fn addressed(motor_id: u16, d2: u8, d3: u8, word: u32) -> u64
     ensures { result ≡ Spec.addressed motor_id (byte d2 ∷ byte d3 ∷ field 32 word ∷ []) }
 {
@@ -26,36 +27,42 @@ fn addressed(motor_id: u16, d2: u8, d3: u8, word: u32) -> u64
     ((head * 256 + (d2 as u64)) * 256 + (d3 as u64)) * 0x1_0000_0000 + (word as u64)
 }
 
+#[tactic(auto, unfolding(crate::specs::Request::register_read_data))]
 pub fn encode_register_read_cmd(motor_id: u16, rid: u8) -> u64
     ensures { result ≡ Spec.register_read_data motor_id rid }
 {
     addressed(motor_id, 0x33, rid, 0)
 }
 
+#[tactic(auto, unfolding(crate::specs::Request::register_write_data))]
 pub fn encode_register_write_cmd(motor_id: u16, rid: u8, bits: u32) -> u64
     ensures { result ≡ Spec.register_write_data motor_id rid bits }
 {
     addressed(motor_id, 0x55, rid, protocol_frame::reversed(bits))
 }
 
+#[tactic(auto, unfolding(crate::specs::Request::store_params_data))]
 pub fn encode_store_params_cmd(motor_id: u16) -> u64
     ensures { result ≡ Spec.store_params_data motor_id }
 {
     addressed(motor_id, 0xaa, 0x01, 0)
 }
 
+#[tactic(auto, unfolding(crate::specs::Request::feedback_request_data))]
 pub fn encode_feedback_request_cmd(motor_id: u16) -> u64
     ensures { result ≡ Spec.feedback_request_data motor_id }
 {
     addressed(motor_id, 0xcc, 0x00, 0)
 }
 
+#[tactic(auto, unfolding(crate::specs::Request::disable_data))]
 pub fn encode_disable_cmd() -> u64
     ensures { result ≡ Spec.disable_data }
 {
     DISABLE
 }
 
+#[tactic(auto, unfolding(protocol_frame::specs::Command::frame_for))]
 pub fn register_read_cmd(motor_id: u16, rid: u8) -> Command
     ensures { result ≡ Spec.register_read_cmd motor_id rid }
 {
@@ -66,6 +73,7 @@ pub fn register_read_cmd(motor_id: u16, rid: u8) -> Command
     )
 }
 
+#[tactic(auto, unfolding(protocol_frame::specs::Command::frame_for))]
 pub fn register_write_cmd(motor_id: u16, rid: u8, bits: u32) -> Command
     ensures { result ≡ Spec.register_write_cmd motor_id rid bits }
 {
@@ -76,30 +84,35 @@ pub fn register_write_cmd(motor_id: u16, rid: u8, bits: u32) -> Command
     )
 }
 
+#[tactic(auto, unfolding(protocol_frame::specs::Command::frame_for))]
 pub fn store_params_cmd(motor_id: u16) -> Command
     ensures { result ≡ Spec.store_params_cmd motor_id }
 {
     protocol_frame::frame_for(motor_id, REQUEST_ID, encode_store_params_cmd(motor_id))
 }
 
+#[tactic(auto, unfolding(protocol_frame::specs::Command::frame_for))]
 pub fn feedback_request_cmd(motor_id: u16) -> Command
     ensures { result ≡ Spec.feedback_request_cmd motor_id }
 {
     protocol_frame::frame_for(motor_id, REQUEST_ID, encode_feedback_request_cmd(motor_id))
 }
 
+#[tactic(auto, unfolding(protocol_frame::specs::Command::frame_for))]
 pub fn disable_cmd(motor_id: u16) -> Command
     ensures { result ≡ Spec.disable_cmd motor_id }
 {
     protocol_frame::frame_for(motor_id, motor_id as u32, encode_disable_cmd())
 }
 
+#[tactic(auto, unfolding(crate::specs::Request::special))]
 pub fn set_zero_cmd(motor_id: u16) -> Command
     ensures { result ≡ Spec.set_zero_cmd motor_id }
 {
     protocol_frame::frame_for(motor_id, motor_id as u32, SET_ZERO)
 }
 
+#[tactic(auto, unfolding(crate::specs::Request::special))]
 pub fn clear_error_cmd(motor_id: u16) -> Command
     ensures { result ≡ Spec.clear_error_cmd motor_id }
 {

@@ -16,6 +16,7 @@ const KP_MAX: f32 = 500.0;
 const KD_MAX: f32 = 5.0;
 
 // A float from x_min to x_max as a code.
+#[tactic(auto, unfolding(protocol_codes::specs::Codes::float_to_uint))]
 fn float_to_uint(x: f32, x_min: f32, x_max: f32, width: Width) -> u32
     ensures { result ≡ float_to_uint (bits_in width) x x_min x_max }
 {
@@ -25,6 +26,7 @@ fn float_to_uint(x: f32, x_min: f32, x_max: f32, width: Width) -> u32
 }
 
 // The five codes of an MIT frame, each cut to its width.
+#[tactic(auto, unfolding(protocol_frame::specs::Layout::packed_onto))]
 fn mit_fields(pos: u32, vel: u32, kp: u32, kd: u32, torq: u32) -> u64
     ensures { result ≡ Spec.mit_fields pos vel kp kd torq }
 {
@@ -59,6 +61,7 @@ pub fn encode_mit_cmd(
     )
 }
 
+#[tactic(auto, unfolding(crate::specs::Setpoint::pos_vel_data))]
 pub fn encode_pos_vel_cmd(target_position: F32Bits, velocity_limit: F32Bits) -> u64
     ensures { result ≡ Spec.pos_vel_data target_position.0 velocity_limit.0 }
 {
@@ -67,6 +70,7 @@ pub fn encode_pos_vel_cmd(target_position: F32Bits, velocity_limit: F32Bits) -> 
     (high as u64) * 0x1_0000_0000 + (low as u64)
 }
 
+#[tactic(auto, unfolding(crate::specs::Setpoint::vel_data))]
 pub fn encode_vel_cmd(target_velocity: F32Bits) -> u64
     ensures { result ≡ Spec.vel_data target_velocity.0 }
 {
@@ -95,6 +99,7 @@ pub fn encode_force_pos_cmd(
     (high as u64) * 0x1_0000_0000 + swapped(v_des) * 0x1_0000 + swapped(i_des)
 }
 
+#[tactic(auto, unfolding(crate::specs::Setpoint::mit_cmd))]
 pub fn mit_cmd(
     motor_id: u16,
     p_max: f32,
@@ -145,6 +150,7 @@ pub fn force_pos_id(motor_id: u16) -> u32
     0x300 + (motor_id as u32)
 }
 
+#[tactic(auto, unfolding(protocol_frame::specs::Command::frame_for))]
 pub fn pos_vel_cmd(motor_id: u16, target_position: F32Bits, velocity_limit: F32Bits) -> Command
     ensures { result ≡ Spec.pos_vel_cmd motor_id target_position.0 velocity_limit.0 }
 {
@@ -152,6 +158,7 @@ pub fn pos_vel_cmd(motor_id: u16, target_position: F32Bits, velocity_limit: F32B
     protocol_frame::frame_for(motor_id, pos_vel_id(motor_id), data)
 }
 
+#[tactic(auto, unfolding(protocol_frame::specs::Command::frame_for))]
 pub fn vel_cmd(motor_id: u16, target_velocity: F32Bits) -> Command
     ensures { result ≡ Spec.vel_cmd motor_id target_velocity.0 }
 {
@@ -159,6 +166,7 @@ pub fn vel_cmd(motor_id: u16, target_velocity: F32Bits) -> Command
     protocol_frame::frame_for(motor_id, vel_id(motor_id), data)
 }
 
+#[tactic(auto, unfolding(protocol_frame::specs::Command::frame_for))]
 pub fn force_pos_cmd(
     motor_id: u16,
     target_position: F32Bits,

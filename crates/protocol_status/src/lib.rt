@@ -21,6 +21,7 @@ pub enum StatusName {
     Unknown,
 }
 
+#[tactic(auto, unfolding(crate::specs::Status::status_name))]
 pub fn status_name(status: u8) -> StatusName
     ensures { result ≡ status_name status }
 {

@@ -28,14 +28,6 @@ info_by_code rid = go (known rid) (elem rid writable) (elem rid whole_number)
     go true false true = refl
     go true true true = refl
 
-pub none_of_four : (n : ℕ) → (n ≡ 1 → ⊥) → (n ≡ 2 → ⊥) → (n ≡ 3 → ⊥) → (n ≡ 4 → ⊥) → meaning n ≡ Unknown
-none_of_four zero a b c d = refl
-none_of_four (suc zero) a b c d = absurd (a refl)
-none_of_four (suc (suc zero)) a b c d = absurd (b refl)
-none_of_four (suc (suc (suc zero))) a b c d = absurd (c refl)
-none_of_four (suc (suc (suc (suc zero)))) a b c d = absurd (d refl)
-none_of_four (suc (suc (suc (suc (suc n))))) a b c d = refl
-
 pub known_by_code : (rid : ℕ) → not (eqb (code_of rid) 0) ≡ known rid
 unfolding code_of
 known_by_code rid = go (known rid) (elem rid writable) (elem rid whole_number)

@@ -69,6 +69,7 @@ fn register_code(rid: u8) -> u8
     REGISTER_CODES[(rid / 8) as usize][(rid % 8) as usize]
 }
 
+#[tactic(auto, using(crate::proofs::Codes::info_by_code))]
 pub fn register_info(rid: u8) -> RegisterInfo
     ensures { result ≡ info_of rid }
 {
@@ -82,6 +83,7 @@ pub fn register_info(rid: u8) -> RegisterInfo
     }
 }
 
+#[tactic(auto, using(crate::proofs::Codes::known_by_code))]
 pub fn is_known(rid: u8) -> bool
     ensures { result ≡ known rid }
 {
@@ -97,6 +99,7 @@ pub enum RegisterValue {
 }
 
 // The value of that type which has these 32 bits.
+#[tactic(auto, unfolding(crate::specs::Value::value_of))]
 pub fn value_from_bits(data_type: RegisterDataType, bits: u32) -> RegisterValue
     ensures { result ≡ value_of data_type bits }
 {
@@ -112,6 +115,7 @@ pub fn value_from_bits(data_type: RegisterDataType, bits: u32) -> RegisterValue
     }
 }
 
+#[tactic(auto, unfolding(crate::specs::Value::bits_of))]
 pub fn value_bits(value: RegisterValue) -> u32
     ensures { result ≡ bits_of value }
 {
@@ -125,6 +129,7 @@ pub fn value_bits(value: RegisterValue) -> u32
     }
 }
 
+#[tactic(auto, unfolding(crate::specs::Value::type_of))]
 pub fn holds_u32(value: RegisterValue) -> bool
     ensures { result ≡ is_u32 (type_of value) }
 {
@@ -136,6 +141,7 @@ pub fn holds_u32(value: RegisterValue) -> bool
 }
 
 // Whether a value is of that type.
+#[tactic(auto, unfolding(crate::specs::Value::of_type))]
 pub fn is_of_type(value: RegisterValue, data_type: RegisterDataType) -> bool
     ensures { result ≡ of_type value data_type }
 {
@@ -146,6 +152,7 @@ pub fn is_of_type(value: RegisterValue, data_type: RegisterDataType) -> bool
 }
 
 // Equality by type and bits: -0.0 is not 0.0, and a NaN equals itself.
+#[tactic(auto, unfolding(crate::specs::Value::same_value))]
 pub fn register_value_matches(actual: RegisterValue, expected: RegisterValue) -> bool
     ensures { result ≡ same_value actual expected }
 {

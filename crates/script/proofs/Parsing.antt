@@ -124,3 +124,6 @@ module _ (line : List ℕ) (h : length line ≤ 4095) (n : length line ≡ 0 →
 
       pub called : length line ≤ j → parsed line ≡ call_of calls (split line)
       called f = left_over ∙ simp (le-ltb (index_of 9 line) (length line) (omega arith), le-ltb (index_of 13 line) (length line) (omega arith))
+
+-- the fields of a call, by its words
+pub ruleset fields_rules = (extra, many, missing, right, whole, wrong)

@@ -146,6 +146,7 @@ fn bad(fault: u64, code: u64, place: u64, kind: u8) -> Call
 }
 
 // The words of `line` from `at` on as the arguments of a call, one for each kind.
+#[tactic(auto, using(crate::proofs::Parsing::fields_rules, script_words::proofs::Words::end_le))]
 fn fields(kinds: &[u8], line: &[u8], at: usize, code: u64) -> Call
     ensures { result ≡ fields_of kinds.now (words_from line.now at) code 0 (replicate 9 0) }
 {

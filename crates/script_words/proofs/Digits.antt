@@ -93,3 +93,8 @@ past v base d pos h k = add (v * base) d h ((div-lt_iff_lt-mul pos).0 k)
   where
     add : (p d : ℕ) → d ≤ 18446744073709551615 → 18446744073709551615 - d < p → 18446744073709551616 ≤ p + d
     add p d h k = omega arith
+
+-- a digit by its byte, and the digits of a word from the first to the last
+pub ruleset digit_rules = (decimal, capital, small, before, amid, amid_2, after)
+
+pub ruleset digits_rules = (empty, first, last, next, not_digit)

@@ -62,3 +62,6 @@ module _ (kind : ℕ) (s : List ℕ) (other : kind ≡ 110 → ⊥) where
   pub no_number : number_of s ≡ Bad → field_of kind s ≡ Bad
   unfolding at_most
   no_number e = number_field Bad e
+
+-- the number of a word, by its first two bytes
+pub ruleset number_rules = (short, not_zero, not_x, zero_x)

@@ -17,6 +17,7 @@ pub enum Read {
 }
 
 // The first place of `byte` in `s` from `from` on, or the end of `s`.
+#[tactic(auto, using(crate::proofs::Words::hit, crate::proofs::Words::miss, crate::proofs::Words::none))]
 pub fn index_of(s: &[u8], from: usize, byte: u8) -> usize
     ensures { result ≡ from + index_of byte (drop from s.now) }
 {
@@ -31,6 +32,7 @@ pub fn index_of(s: &[u8], from: usize, byte: u8) -> usize
 }
 
 // The word after the first: the name in a line of `start-model`. Empty where there is none.
+#[tactic(auto, using(crate::proofs::Words::end_le, crate::proofs::Words::second_is, crate::proofs::Words::second_none))]
 pub fn second_word(line: &[u8]) -> &[u8]
     ensures { result.now ≡ second (split line.now) }
 {

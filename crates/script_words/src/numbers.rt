@@ -5,6 +5,7 @@ ghost use Rattle.script_words.specs.Number.{digit_of, digits_of, number_of, limi
 use crate::Read;
 
 // The value of a decimal or hexadecimal digit, or 16.
+#[tactic(auto, using(crate::proofs::Digits::digit_rules))]
 fn digit(b: u8) -> u64
     ensures { result ≡ digit_of b }
 {
@@ -17,6 +18,7 @@ fn digit(b: u8) -> u64
 }
 
 // The number that the digits from `from` on make.
+#[tactic(auto, using(crate::proofs::Digits::digits_rules))]
 fn digits(word: &[u8], from: usize, base: u64) -> Read
     requires { 0 < base }
     ensures { result ≡ digits_of base (drop from word.now) }
@@ -41,6 +43,7 @@ fn digits(word: &[u8], from: usize, base: u64) -> Read
 }
 
 // A number in decimal, or in hexadecimal after `0x`.
+#[tactic(auto, using(crate::proofs::Fields::number_rules))]
 pub fn number(word: &[u8]) -> Read
     ensures { result ≡ number_of word.now }
 {
@@ -57,6 +60,7 @@ pub fn number(word: &[u8]) -> Read
 }
 
 // The largest number of a field of this kind.
+#[tactic(auto, unfolding(crate::specs::Number::limit_of))]
 fn limit(kind: u8) -> u64
     ensures { result ≡ limit_of kind }
 {
@@ -70,6 +74,7 @@ fn limit(kind: u8) -> u64
 }
 
 // An argument of this kind: a name's length, or a number within its field.
+#[tactic(auto, using(crate::proofs::Fields::a_name, crate::proofs::Fields::no_name, crate::proofs::Fields::no_number))]
 pub fn field(kind: u8, word: &[u8]) -> Read
     ensures { result ≡ field_of kind word.now }
 {

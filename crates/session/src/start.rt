@@ -52,6 +52,7 @@ fn empty_slots() -> [Slot; 82]
 }
 
 // Empty caches and no run.
+#[tactic(auto, unfolding(crate::specs::Session::fresh))]
 fn fresh(motor_id: u16, feedback_id: u16, limits: PvTLimits) -> Session
     ensures { result ≡ fresh motor_id feedback_id limits }
 {
@@ -90,6 +91,7 @@ fn refused(number: u8) -> Started
     }
 }
 
+#[tactic(auto, using(motor_core::proofs::Turned::turned))]
 fn with_limits(motor_id: u16, feedback_id: u16, limits: PvTLimits) -> Started
     ensures { result ≡ Spec.with_limits motor_id feedback_id limits }
 {
@@ -103,6 +105,7 @@ fn with_limits(motor_id: u16, feedback_id: u16, limits: PvTLimits) -> Started
 }
 
 // A fresh session with these limits, or the refusal 1 or 2.
+#[tactic(auto, unfolding(crate::specs::Start::from_limits))]
 pub fn from_limits(motor_id: u16, feedback_id: u16, maxima: Maxima) -> Started
     ensures { result ≡ Spec.from_limits motor_id feedback_id maxima }
 {
@@ -113,6 +116,7 @@ pub fn from_limits(motor_id: u16, feedback_id: u16, maxima: Maxima) -> Started
 }
 
 // A fresh session with the limits of the first model of that name, or the refusal 12, 1 or 2.
+#[tactic(auto, unfolding(crate::specs::Start::from_model))]
 pub fn from_model(motor_id: u16, feedback_id: u16, list: ModelList, name: &[u8]) -> Started
     ensures { result ≡ Spec.from_model motor_id feedback_id (models_of list) name.now }
 {

@@ -54,6 +54,7 @@ fn entry_between(place: Place, reply: Slot, ack: Slot) -> Entry
 
 // Answers what the session's run wants. Both slots are read where they stand: caches that are handed on
 // would be copied.
+#[tactic(auto, using(state_cache::proofs::Places::slot_below))]
 pub fn answer_run(mut session: Session, answer: Answer) -> AfterCall
     ensures { result ≡ Spec.answer_run session answer }
 {

@@ -66,6 +66,7 @@ fn begin(mut session: Session, start: StartCheck) -> AfterCall
 }
 
 // Reads a register that holds a whole number; refused with 8, 4 or 7.
+#[tactic(auto, unfolding(crate::specs::Begin::get_register_u32))]
 pub fn get_register_u32(session: Session, rid: u8, timeout: Duration) -> AfterCall
     ensures { result ≡ Spec.get_register_u32 session rid timeout }
 {
@@ -73,6 +74,7 @@ pub fn get_register_u32(session: Session, rid: u8, timeout: Duration) -> AfterCa
 }
 
 // Reads a register that holds a float; refused with 8, 4 or 7.
+#[tactic(auto, unfolding(crate::specs::Begin::get_register_f32))]
 pub fn get_register_f32(session: Session, rid: u8, timeout: Duration) -> AfterCall
     ensures { result ≡ Spec.get_register_f32 session rid timeout }
 {
@@ -80,6 +82,7 @@ pub fn get_register_f32(session: Session, rid: u8, timeout: Duration) -> AfterCa
 }
 
 // Writes a whole number and waits for its ack; refused with 8, 4, 5 or 6.
+#[tactic(auto, unfolding(crate::specs::Begin::write_register_u32))]
 pub fn write_register_u32(session: Session, rid: u8, value: u32) -> AfterCall
     ensures { result ≡ Spec.write_register_u32 session rid value }
 {
@@ -87,6 +90,7 @@ pub fn write_register_u32(session: Session, rid: u8, value: u32) -> AfterCall
 }
 
 // Writes a float, given by its bits, and waits for its ack; refused with 8, 4, 5 or 6.
+#[tactic(auto, unfolding(crate::specs::Begin::write_register_f32))]
 pub fn write_register_f32(session: Session, rid: u8, value: F32Bits) -> AfterCall
     ensures { result ≡ Spec.write_register_f32 session rid value }
 {
@@ -97,6 +101,7 @@ pub fn write_register_f32(session: Session, rid: u8, value: F32Bits) -> AfterCal
 }
 
 // Asks the motor for its state; refused with 8 or 7.
+#[tactic(auto, unfolding(crate::specs::Begin::request_fresh_state))]
 pub fn request_fresh_state(session: Session, timeout: Duration) -> AfterCall
     ensures { result ≡ Spec.request_fresh_state session timeout }
 {
@@ -104,6 +109,7 @@ pub fn request_fresh_state(session: Session, timeout: Duration) -> AfterCall
 }
 
 // Stores the motor's parameters, disabling it first if need be; refused with 8.
+#[tactic(auto, unfolding(crate::specs::Begin::store_parameters))]
 pub fn store_parameters(session: Session) -> AfterCall
     ensures { result ≡ Spec.store_parameters session }
 {
@@ -111,6 +117,7 @@ pub fn store_parameters(session: Session) -> AfterCall
 }
 
 // Switches the motor to a control mode, 1 to 4; refused with 8, 10 or 7.
+#[tactic(auto, unfolding(crate::specs::Begin::ensure_control_mode))]
 pub fn ensure_control_mode(session: Session, mode: u32, timeout: Duration) -> AfterCall
     ensures { result ≡ Spec.ensure_control_mode session mode timeout }
 {

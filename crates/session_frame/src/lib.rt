@@ -89,6 +89,7 @@ fn taken_step(head: Head, arbitration_id: u32, received: Received, reading: Inst
 }
 
 // Takes a frame, with its reading, into the small parts.
+#[tactic(auto, unfolding(crate::specs::Frame::frame_step))]
 pub fn frame_step(head: Head, frame: CanFrame, reading: Instant) -> FrameStep
     ensures { result ≡ Spec.frame_step head frame reading }
 {

@@ -61,6 +61,7 @@ fn parts_step(head: Head, reply: Slot, ack: Slot, frame: CanFrame, reading: Inst
 }
 
 // Takes a frame, with its reading, into the session that is lent.
+#[tactic(auto, using(state_cache::proofs::Places::slot_below))]
 pub fn process_feedback_frame(
     session: &mut Session,
     frame: CanFrame,

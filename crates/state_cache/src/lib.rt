@@ -36,6 +36,7 @@ pub enum Cached {
 
 // Where a register's slot stands; for a number from 82 on, which has none, 0. The test is there for the
 // compiler too: knowing the bound, it copies a session whole and not field by field.
+#[tactic(auto, unfolding(crate::specs::Cache::slot_place))]
 pub fn slot_place(rid: u8) -> usize
     ensures { result ≡ Spec.slot_place rid }
 {
@@ -43,6 +44,7 @@ pub fn slot_place(rid: u8) -> usize
 }
 
 // A register's entry among a session's replies, or among its acks.
+#[tactic(auto, using(registers::proofs::Below::known_below))]
 pub fn cached_entry(slots: [Slot; 82], rid: u8) -> Cached
     ensures { result ≡ Spec.cached_entry slots rid }
 {

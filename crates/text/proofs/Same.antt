@@ -36,3 +36,5 @@ same_next a b i h k e =
 pub same_end : (a b : List ℕ) (i : ℕ) → length a ≤ i → length b ≤ i → same (drop i a) (drop i b) ≡ true
 unfolding same
 same_end a b i h k = ap (λ (l : List ℕ). same l (drop i b)) (drop_of_length-le a h) ∙ ap (same []) (drop_of_length-le b k)
+
+pub ruleset same_rules = (same_length, same_not, same_next, same_end)

@@ -7,6 +7,7 @@ ghost use Rattle.text.specs.Text.{same, put_at, place_after, digits, trimmed, de
 ghost use Rattle.text.specs.Text.{glyph as Text·glyph};
 
 // Whether the two are of one length and the same byte for byte.
+#[tactic(auto, using(crate::proofs::Same::same_rules))]
 pub fn same_bytes(a: &[u8], b: &[u8]) -> bool
     ensures { result ≡ same a.now b.now }
 {
@@ -24,6 +25,7 @@ pub fn same_bytes(a: &[u8], b: &[u8]) -> bool
 }
 
 // Puts `text` into `out` from `at` on, and answers the place after it.
+#[tactic(auto, unfolding(crate::specs::Text::place_after, crate::specs::Text::put_at))]
 pub fn put(out: &mut [u8], at: usize, text: &[u8]) -> usize
     ensures { (out.new ≡ put_at out.old at text.now) × (result ≡ place_after out.old at text.now) }
 {
@@ -41,6 +43,7 @@ pub fn put(out: &mut [u8], at: usize, text: &[u8]) -> usize
 }
 
 // Puts `n` in decimal.
+#[tactic(auto, unfolding(crate::specs::Text::decimal))]
 pub fn put_decimal(out: &mut [u8], at: usize, n: u64) -> usize
     ensures { (out.new ≡ put_at out.old at (decimal n)) × (result ≡ place_after out.old at (decimal n)) }
 {
@@ -51,6 +54,7 @@ pub fn put_decimal(out: &mut [u8], at: usize, n: u64) -> usize
 }
 
 // Puts the last `width` hexadecimal digits of `n`, sixteen at most, in capitals.
+#[tactic(auto, unfolding(crate::specs::Text::hexadecimal))]
 pub fn put_hex(out: &mut [u8], at: usize, n: u64, width: usize) -> usize
     ensures { (out.new ≡ put_at out.old at (hexadecimal width n)) × (result ≡ place_after out.old at (hexadecimal width n)) }
 {
@@ -67,6 +71,7 @@ fn least(a: usize, b: usize) -> usize
 }
 
 // Puts the last k digits of n in base at the start of out.
+#[tactic(auto, unfolding(crate::specs::Text::digits))]
 fn spell(n: u64, base: u64, k: usize, out: &mut [u8])
     requires base_nonzero { 0 < base }
     requires base_bound { base ≤ 16 }
@@ -82,6 +87,7 @@ fn spell(n: u64, base: u64, k: usize, out: &mut [u8])
     }
 }
 
+#[tactic(auto, unfolding(crate::specs::Text::glyph))]
 fn glyph(d: u64) -> u8
     requires { d < 16 }
     ensures { result ≡ Text·glyph d }
@@ -94,6 +100,7 @@ fn glyph(d: u64) -> u8
 }
 
 // How many zeros stand in front, but for a last digit.
+#[tactic(auto, using(crate::proofs::Buffers::a_zero, crate::proofs::Buffers::at_last, crate::proofs::Buffers::not_zero))]
 fn zeros(text: &[u8]) -> usize
     ensures { (result ≤ length text.now) × (drop result text.now ≡ trimmed text.now) }
 {

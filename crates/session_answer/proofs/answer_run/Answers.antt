@@ -1,28 +1,14 @@
 -- `session_answer::answer_run` meets its contract. Assumes nothing.
 use Prim.Native.Nat.{ℕ}
 use mathlib.Core.Path.{ap, ◌∙◌}
-use native.Mathlib.Omega.{arith}
 use Rattle.state_cache.specs.Cache.{slot_of, slot_place}
 use Rattle.state_cache.specs.declared.Entry.{Entry}
-use Rattle.state_cache.proofs.Places.{slot_below}
 use Rattle.session.proofs.Slots.{replies_length, acks_length}
 use Rattle.session_step.specs.Parts.{answer_step}
 use Rattle.session_answer.specs.Answer.{entry_at, with_step, answer_run}
 use Rattle.session_answer.specs.Slots.{entry_between}
 use Rattle.session_answer.proofs.Look.{found_between}
 use Rattle.session_answer.proofs.answer_run.Goals as goal
-
-pub offset_bounds-session-at : goal.offset_bounds-session-at
-offset_bounds-session-at c = omega (arith, slot_below _ _ c.slot_place-at.ensures)
-
-pub bounds-session-at : goal.bounds-session-at
-bounds-session-at c = slot_below _ _ c.slot_place-at.ensures
-
-pub offset_bounds-session-at-2 : goal.offset_bounds-session-at-2
-offset_bounds-session-at-2 c = omega (arith, slot_below _ _ c.slot_place-at.ensures)
-
-pub bounds-session-at-2 : goal.bounds-session-at-2
-bounds-session-at-2 c = slot_below _ _ c.slot_place-at.ensures
 
 pub returns : goal.returns
 unfolding answer_run

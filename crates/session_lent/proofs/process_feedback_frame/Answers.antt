@@ -1,10 +1,8 @@
 -- `session_lent::process_feedback_frame` meets its contract. Assumes nothing.
 use mathlib.Core.Path.{◌≡◌, ap, ◌∙◌}
 use Prim.Native.Nat.{ℕ}
-use native.Mathlib.Omega.{arith}
 use Rattle.motor_core.specs.declared.bus.CanFrame.{CanFrame}
 use Rattle.time.specs.declared.Instant.{Instant}
-use Rattle.state_cache.proofs.Places.{slot_below}
 use Rattle.session.specs.declared.Session.{Session}
 use Rattle.session_frame.specs.Frame.{take_frame}
 use Rattle.session_frame.specs.declared.AfterFrame.{AfterFrame}
@@ -19,30 +17,6 @@ lent : (s : Session) (f : CanFrame) (t : Instant) (place : ℕ) (parts : Parts) 
 lent s f t place parts k e =
     let whole : parts ≡ parts_at s (frame_place f) f t = e ∙ ap (λ (p : ℕ). parts_at s p f t) k in
     (λ i. record { session = put_back s (k i) (whole i); outcome = (whole i).outcome }) ∙ by_parts s f t
-
-pub offset_bounds-session-place : goal.offset_bounds-session-place
-offset_bounds-session-place c = omega (arith, slot_below _ _ c.frame_place-place.ensures)
-
-pub bounds-session-place : goal.bounds-session-place
-bounds-session-place c = slot_below _ _ c.frame_place-place.ensures
-
-pub offset_bounds-session-place-2 : goal.offset_bounds-session-place-2
-offset_bounds-session-place-2 c = omega (arith, slot_below _ _ c.frame_place-place.ensures)
-
-pub bounds-session-place-2 : goal.bounds-session-place-2
-bounds-session-place-2 c = slot_below _ _ c.frame_place-place.ensures
-
-pub offset_bounds-session-place-3 : goal.offset_bounds-session-place-3
-offset_bounds-session-place-3 c = omega (arith, slot_below _ _ c.frame_place-place.ensures)
-
-pub bounds-session-place-3 : goal.bounds-session-place-3
-bounds-session-place-3 c = slot_below _ _ c.frame_place-place.ensures
-
-pub offset_bounds-session-place-4 : goal.offset_bounds-session-place-4
-offset_bounds-session-place-4 c = omega (arith, slot_below _ _ c.frame_place-place.ensures)
-
-pub bounds-session-place-4 : goal.bounds-session-place-4
-bounds-session-place-4 c = slot_below _ _ c.frame_place-place.ensures
 
 pub returns : goal.returns
 returns c =

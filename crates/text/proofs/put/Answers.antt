@@ -1,19 +1,12 @@
 -- `text::put` meets its contract. The invariant: the first i bytes of the text are in their places. Assumes nothing.
-use Prim.Native.Nat.{ℕ, ◌+◌, ◌-◌, min}
-use mathlib.Core.Path.{◌≡◌, sym, ap, ◌∙◌}
+use Prim.Native.Nat.{ℕ, ◌-◌}
+use mathlib.Core.Path.{sym, ap, ◌∙◌}
 use mathlib.Core.List.{List}
 use native.Mathlib.Numerals.{add-one}
 use native.Mathlib.Omega.{arith}
-use lib.ListN.{length, set, get_or, length-set}
+use lib.ListN.{set, get_or, length-set}
 use lib.Seq.{paste, paste-suc}
-use Rattle.text.specs.Text.{put_at, place_after}
 use Rattle.text.proofs.put.Goals as goal
-
-pub returns-then-to-out : goal.returns-then-to-out
-unfolding put_at place_after
-returns-then-to-out c = let l = c.loop-i in
-    let all : l.i ≡ min (length c.args.text.now) (length c.args.out.now - c.args.at) = omega arith in
-    (l.invariant.4 ∙ ap (paste c.args.out.now c.args.at c.args.text.now) all, l.invariant.2 ∙ ap (λ (n : ℕ). c.args.at + n) all)
 
 pub loop-i-preserved : goal.loop-i-preserved
 loop-i-preserved c = let l = c.loop-i in
@@ -27,9 +20,3 @@ loop-i-preserved c = let l = c.loop-i in
           ∙ paste-suc c.args.out.now c.args.at c.args.text.now l.i 0 (omega arith) (omega arith)
           ∙ ap (paste c.args.out.now c.args.at c.args.text.now) (sym (add-one l.i)),
     )
-
-pub returns : goal.returns
-unfolding put_at place_after
-returns c = let l = c.loop-i in
-    let all : l.i ≡ min (length c.args.text.now) (length c.args.out.now - c.args.at) = omega arith in
-    (l.invariant.4 ∙ ap (paste c.args.out.now c.args.at c.args.text.now) all, l.invariant.2 ∙ ap (λ (n : ℕ). c.args.at + n) all)

