@@ -1,13 +1,18 @@
--- What it says of three maxima that they are accepted. Assumes nothing.
-use mathlib.Core.Path.{◌≡◌, refl}
+-- What it says of three maxima that they are accepted, and what is made of their check. Assumes nothing.
+use mathlib.Core.Path.{◌≡◌, refl, sym, ap, ◌∙◌}
 use mathlib.Core.Bool.{Bool, true, false, ◌&&◌, cond}
 use lib.Dec.{T}
 use lib.Ieee.{Float}
 use Rattle.motor_core.specs.Error.{limit}
 use Rattle.motor_core.specs.Model.{limit_accepted, from_maxima, limits_of}
 use Rattle.motor_core.specs.declared.model.PvTLimits.{PvTLimits}
+use Rattle.motor_core.specs.declared.model.LimitCheck.{LimitCheck}
 use Rattle.motor_core.specs.declared.model.LimitCheck.TheVariants.{Accepted, Refused}
 use Rattle.motor_core.proofs.Turned.{clash}
+
+-- what is made of the check, by what came of it
+pub by_check : {A : Type 0} (f : LimitCheck → A) {made told check : LimitCheck} → made ≡ check → made ≡ told → f told ≡ f check
+by_check f e h = ap f (sym h ∙ e)
 
 pub record Accepts (p v t : Float) (l : PvTLimits) : Type 0 where
   pub position : T (limit_accepted p)
