@@ -1,19 +1,19 @@
 -- The limits that are accepted, and the record that three maxima make. Definitions only.
-use Rattle.std.specs.Prelude.{Bool, ◌&&◌, false, cond, pos, negsuc, Float}
+use Rattle.std.specs.Prelude.{Bool, ◌&&◌, false, cond, pos, negsuc, Float, Result, Ok, Err}
 use Rattle.std.specs.Float.{fin}
 use Rattle.std.specs.Float.Ieee.{le, neg}
-use Rattle.motor_core.specs.Error.{limit}
+use Rattle.motor_core.specs.declared.error.Refusal.{Refusal}
+use Rattle.motor_core.specs.declared.error.Refusal.TheVariants.{Limit}
+use Rattle.motor_core.specs.declared.model.Maxima.{Maxima}
 use Rattle.motor_core.specs.declared.model.PvTLimits.{PvTLimits}
-use Rattle.motor_core.specs.declared.model.LimitCheck.{LimitCheck}
-use Rattle.motor_core.specs.declared.model.LimitCheck.TheVariants.{Accepted, Refused}
 
--- 'Turned back', 1: accepted from 1/1024 to 65,536, both included. A NaN compares with neither, an infinity lies beyond
+-- accepted from 1/1024 to 65,536, both included. A NaN compares with neither, an infinity lies beyond
 unfoldable pub limit_accepted : Float → Bool
 limit_accepted max = le (fin false 1 (negsuc 9)) max && le max (fin false 1 (pos 16))
 
--- 'The feedback on the screen', limits: six floats from three maxima, a minimum being its maximum negated
-abbrev pub from_maxima : Float → Float → Float → PvTLimits
-from_maxima p v t = record { p_min = neg p; p_max = p; v_min = neg v; v_max = v; t_min = neg t; t_max = t }
+-- six floats from three maxima, a minimum being its maximum negated
+abbrev pub from_maxima : Maxima → PvTLimits
+from_maxima m = record { p_min = neg m.p_max; p_max = m.p_max; v_min = neg m.v_max; v_max = m.v_max; t_min = neg m.t_max; t_max = m.t_max }
 
-unfoldable pub limits_of : Float → Float → Float → LimitCheck
-limits_of p v t = cond (limit_accepted p && limit_accepted v && limit_accepted t) (Accepted (from_maxima p v t)) (Refused limit)
+unfoldable pub limits_of : Maxima → Result PvTLimits Refusal
+limits_of m = cond (limit_accepted m.p_max && limit_accepted m.v_max && limit_accepted m.t_max) (Ok (from_maxima m)) (Err Limit)

@@ -1,24 +1,27 @@
-// The numbers of the refusals, as document 01 has them.
-pub const LIMIT: u8 = 1;
+// Why what is handed in is refused. Callers are told the number, which `u8::from` gives.
+ghost use Rattle.std.specs.Prelude.{◌≡◌};
+ghost use Rattle.motor_core.specs.Error.{number};
 
-pub const MOTOR_ID: u8 = 2;
+#[derive(Clone, Copy, Debug, PartialEq, Eq)]
+pub enum Refusal {
+    Limit = 1,
+    MotorId = 2,
+    Reading = 3,
+    Register = 4,
+    ReadOnly = 5,
+    ValueType = 6,
+    Timeout = 7,
+    RunOpen = 8,
+    NotWanted = 9,
+    Mode = 10,
+    Query = 11,
+    Model = 12,
+}
 
-pub const READING: u8 = 3;
+impl From<Refusal> for u8 {
+    ghost from_gives = { λ refusal n. n ≡ number refusal };
 
-pub const REGISTER: u8 = 4;
-
-pub const READ_ONLY: u8 = 5;
-
-pub const VALUE_TYPE: u8 = 6;
-
-pub const TIMEOUT: u8 = 7;
-
-pub const RUN_OPEN: u8 = 8;
-
-pub const NOT_WANTED: u8 = 9;
-
-pub const MODE: u8 = 10;
-
-pub const QUERY: u8 = 11;
-
-pub const MODEL: u8 = 12;
+    fn from(refusal: Refusal) -> u8 {
+        refusal as u8
+    }
+}

@@ -2,7 +2,15 @@
 ghost use Rattle.std.specs.Prelude.{◌≡◌};
 ghost use Rattle.motor_core.specs.Model.{limit_accepted, limits_of};
 
-use crate::error::LIMIT;
+use crate::error::Refusal;
+
+// The maxima of position, velocity and torque.
+#[derive(Clone, Copy)]
+pub struct Maxima {
+    pub p_max: f32,
+    pub v_max: f32,
+    pub t_max: f32,
+}
 
 #[derive(Clone, Copy)]
 pub struct PvTLimits {
@@ -14,12 +22,6 @@ pub struct PvTLimits {
     pub t_max: f32,
 }
 
-#[derive(Clone, Copy)]
-pub enum LimitCheck {
-    Accepted(PvTLimits),
-    Refused(u8),
-}
-
 // Whether a maximum is finite, from 1/1024 to 65,536.
 pub fn accepts_limit(max: f32) -> bool
     ensures { result ≡ limit_accepted max }
@@ -29,19 +31,18 @@ pub fn accepts_limit(max: f32) -> bool
 
 // The six limits that three maxima stand for.
 #[tactic(auto, unfolding(crate::specs::Model::limits_of))]
-pub fn from_maxima(p_max: f32, v_max: f32, t_max: f32) -> LimitCheck
-    ensures { result ≡ limits_of p_max v_max t_max }
+pub fn from_maxima(maxima: Maxima) -> Result<PvTLimits, Refusal>
+    ensures { result ≡ limits_of maxima }
 {
-    if !accepts_limit(p_max) {
-        return LimitCheck::Refused(LIMIT);
+    let Maxima {
+        p_max,
+        v_max,
+        t_max,
+    } = maxima;
+    if !accepts_limit(p_max) || !accepts_limit(v_max) || !accepts_limit(t_max) {
+        return Err(Refusal::Limit);
     }
-    if !accepts_limit(v_max) {
-        return LimitCheck::Refused(LIMIT);
-    }
-    if !accepts_limit(t_max) {
-        return LimitCheck::Refused(LIMIT);
-    }
-    LimitCheck::Accepted(PvTLimits {
+    Ok(PvTLimits {
         p_min: -p_max,
         p_max,
         v_min: -v_max,
