@@ -14,7 +14,7 @@ use denote.Laws.{Is}
 use denote.Struct.Laws as Laws
 use Rattle.motor_core.specs.Name.{name_of}
 use Rattle.motor_core.specs.declared.name.Name.{Name}
-use Rattle.model_list.specs.Counted.{model_places, models_of, names_of}
+use Rattle.model_list.specs.Counted.{model_places, models_of, held, names_of}
 use Rattle.model_list.specs.declared.ModelList.{ModelList}
 use Rattle.model_list.specs.declared.Names.{Names}
 use Rattle.model_list.specs.contracts.ModelList as List·row
@@ -22,23 +22,11 @@ use Rattle.model_list.proofs.ModelList.TheLaws as List·laws
 use Rattle.model_list.specs.contracts.Names as Names·row
 use Rattle.model_list.proofs.Names.TheLaws as Names·laws
 
--- places of which the first n are these names
-pub record Holds (xs : List Name) (n : ℕ) (names : List Name) : Type 0 where
-  pub count : n ≡ length xs
-  pub places : names ≡ (names_of xs).names
-
--- one more
-pub holds_next : {xs : List Name} {n : ℕ} {names : List Name} (x : Name) → Holds xs n names → n < model_places → Holds (xs ++ (x ∷ [])) (n + 1) (set names n x)
+-- one more name
+pub names_more : (xs : List Name) (x : Name) → length xs < model_places
+    → ◌≡◌ {A = Names} (record { names = set (names_of xs).names (length xs) x; count = length xs + 1 }) (names_of (xs ++ (x ∷ [])))
 unfolding names_of
-holds_next {xs} {n} {names} x h l = record {
-  count = ap (λ (k : ℕ). k + 1) h.count ∙ sym (length-append xs (x ∷ []));
-  places =
-      (λ i. set (h.places i) (h.count i) x)
-      ∙ ap (λ (k : ℕ). set (xs ++ replicate k (name_of "")) (length xs) x) (one_less (length xs) (subst (λ (k : ℕ). k < model_places) h.count l))
-      ∙ set-append_seam xs (name_of "") (replicate (model_places - suc (length xs)) (name_of "")) x
-      ∙ sym (append_assoc xs (x ∷ []) (replicate (model_places - suc (length xs)) (name_of "")))
-      ∙ ap (λ (k : ℕ). (xs ++ (x ∷ [])) ++ replicate k (name_of "")) (rest (length xs) (length (xs ++ (x ∷ []))) (length-append xs (x ∷ [])));
-}
+names_more xs x h = λ i. record { names = places i; count = sym (length-append xs (x ∷ [])) i }
   where
     one_less : (n : ℕ) → n < model_places → model_places - n ≡ suc (model_places - suc n)
     one_less n h = omega arith
@@ -46,13 +34,20 @@ holds_next {xs} {n} {names} x h l = record {
     rest : (n m : ℕ) → m ≡ n + 1 → model_places - suc n ≡ model_places - m
     rest n m h = omega arith
 
-pub holds_like : {xs ys : List Name} {n m : ℕ} {names places : List Name} → Holds xs n names → xs ≡ ys → m ≡ n → places ≡ names → Holds ys m places
-holds_like h e k l = record { count = k ∙ h.count ∙ ap length e; places = l ∙ h.places ∙ ap (λ (xs : List Name). (names_of xs).names) e }
+    places : set (xs ++ replicate (model_places - length xs) (name_of "")) (length xs) x ≡ (xs ++ (x ∷ [])) ++ replicate (model_places - length (xs ++ (x ∷ []))) (name_of "")
+    places =
+        ap (λ (k : ℕ). set (xs ++ replicate k (name_of "")) (length xs) x) (one_less (length xs) h)
+        ∙ set-append_seam xs (name_of "") (replicate (model_places - suc (length xs)) (name_of "")) x
+        ∙ sym (append_assoc xs (x ∷ []) (replicate (model_places - suc (length xs)) (name_of "")))
+        ∙ ap (λ (k : ℕ). (xs ++ (x ∷ [])) ++ replicate k (name_of "")) (rest (length xs) (length (xs ++ (x ∷ []))) (length-append xs (x ∷ [])))
 
--- with their count
-pub holds_all : {xs : List Name} {n : ℕ} {names : List Name} → Holds xs n names → ◌≡◌ {A = Names} (record { names = names; count = n }) (names_of xs)
+pub names_push : (names : Names) (x : Name) → names ≡ names_of (held names) → names.count < model_places
+    → ◌≡◌ {A = Names} (record { names = set names.names names.count x; count = names.count + 1 }) (names_of (held names ++ (x ∷ [])))
 unfolding names_of
-holds_all h = λ i. record { names = h.places i; count = h.count i }
+names_push names x e h = (λ i. record { names = set (e i).names (count i) x; count = count i + 1 }) ∙ names_more (held names) x (subst (λ (k : ℕ). k < model_places) count h)
+  where
+    count : names.count ≡ length (held names)
+    count = ap (λ (n : Names). n.count) e
 
 pub models_places : (list : ModelList) (vs : List Val) → Is List·row.the_row list vs → length list.models ≡ model_places
 models_places list vs is = (Laws.owed List·row.the_type List·laws.the_laws list vs is).0.1.0.1
