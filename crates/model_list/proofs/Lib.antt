@@ -1,1 +1,2 @@
+pub mod FirstPlaces
 pub mod Lists

@@ -1,2 +1,3 @@
 pub mod Counted
 pub mod Models
+pub mod Places

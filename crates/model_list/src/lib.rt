@@ -1,13 +1,14 @@
 // A list of models, and a model's limits by its name.
 #![tactic(auto)]
 
-ghost use Rattle.std.specs.Prelude.{◌≡◌, ◌<◌, min, [], ◌∷◌, ◌++◌};
-ghost use Rattle.model_list.specs.Counted.{model_places, models_of, held, names_of};
+ghost use Rattle.std.specs.Prelude.{◌≡◌, ◌<◌, ◌≤◌, min, [], ◌∷◌, ◌++◌, length};
+ghost use Rattle.model_list.specs.Counted.{model_places, models_of};
 ghost use Rattle.model_list.specs.Models.{limits_by_name};
 
 use motor_core::error::Refusal;
 use motor_core::model::Maxima;
 use motor_core::name::{Name, spells};
+use std::marker::Model;
 
 // How many models a list has room for, and so how many names an answer has.
 pub const MODEL_PLACES: usize = 16;
@@ -25,16 +26,38 @@ pub struct ModelList {
     pub count: u8,
 }
 
-// The first `count` are the names; the places after them are empty. They are fixed as a list's are.
+// A list of names. The places after the first `count` are empty; they are fixed as a list's are.
 #[derive(Clone, Copy)]
 pub struct Names {
-    pub names: [Name; MODEL_PLACES],
-    pub count: u8,
+    names: [Name; MODEL_PLACES],
+    count: u8,
+}
+
+impl Model for Names {
+    ghost use Rattle.std.specs.Prelude.{List, length, take};
+    ghost use Rattle.motor_core.specs.declared.name.Name.{Name};
+    ghost use Rattle.model_list.specs.Places.{in_places, OnlyFirst};
+
+    ghost Value = { List Name };
+
+    ghost view = { λ n. take n.count n.names };
+
+    ghost invariant = { λ n. OnlyFirst n.count n.names };
+
+    ghost inverse = { λ names. record { names = in_places names; count = length names } };
+
+    ghost use mathlib.Core.Path.{sym};
+
+    ghost inverse_ok = { λ n h i. record {
+      names = sym h.empty_after i;
+      count = sym h.counted i;
+    } };
 }
 
 impl ModelList {
     pub fn models(&self) -> &[MotorModelSpec]
-        ensures { result.now ≡ models_of self.now }
+        ensures models { result.now ≡ models_of self.now }
+        ensures room { length result.now ≤ model_places }
     {
         &self.models[..places(self.count)]
     }
@@ -42,9 +65,8 @@ impl ModelList {
 
 impl Names {
     // No names.
-    #[tactic(auto, unfolding(crate::specs::Counted::names_of, motor_core::specs::Name::name_of))]
     pub fn new() -> Names
-        ensures { result ≡ names_of [] }
+        ensures { result ≡ [] }
     {
         let name = Name {
             bytes: *b"               ",
@@ -57,17 +79,15 @@ impl Names {
     }
 
     pub fn as_slice(&self) -> &[Name]
-        ensures { result.now ≡ held self.now }
+        ensures { result.now ≡ self.now }
     {
-        &self.names[..places(self.count)]
+        &self.names[..usize::from(self.count)]
     }
 
     // Puts a name last.
-    #[tactic(auto, using(crate::proofs::Lists::names_push))]
     pub fn push(&mut self, name: Name)
-        requires empty_after { self.old ≡ names_of (held self.old) }
-        requires room { self.old.count < model_places }
-        ensures { self.new ≡ names_of (held self.old ++ name ∷ []) }
+        requires { length self.old < model_places }
+        ensures { self.new ≡ self.old ++ name ∷ [] }
     {
         self.names[usize::from(self.count)] = name;
         self.count += 1;

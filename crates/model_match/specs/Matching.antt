@@ -1,15 +1,15 @@
 -- The models that match a query. Definitions only.
-use Rattle.std.specs.Prelude.{Bool, false, ◌&&◌, List, Float}
+use Rattle.std.specs.Prelude.{Bool, false, ◌&&◌, List, filter, Float, Result}
 use Rattle.std.specs.Float.{nan, inf, fin}
 use Rattle.std.specs.Float.Ieee.{le}
 use Rattle.float.specs.Arithmetic.{◌⊖◌}
+use Rattle.motor_core.specs.declared.error.Refusal.{Refusal}
 use Rattle.motor_core.specs.declared.name.Name.{Name}
-use Rattle.model_list.specs.Counted.{models_of, model_names, keep}
+use Rattle.model_list.specs.Counted.{models_of, model_names}
 use Rattle.model_query.specs.declared.Query.{Query}
 use Rattle.model_list.specs.declared.MotorModelSpec.{MotorModelSpec}
 use Rattle.model_list.specs.declared.ModelList.{ModelList}
 use Rattle.model_query.specs.Query.{answer}
-use Rattle.model_query.specs.declared.Listing.{Listing}
 
 -- a float's sign dropped
 unfoldable pub magnitude : Float → Float
@@ -30,7 +30,7 @@ matches query tolerance spec =
 
 -- 'The model list', `match_models_by_limits`
 unfoldable pub matching_names : List MotorModelSpec → Query → Float → List Name
-matching_names specs query tolerance = model_names (keep (matches query tolerance) specs)
+matching_names specs query tolerance = model_names (filter (matches query tolerance) specs)
 
-abbrev pub match_models : ModelList → Query → Float → Listing
+abbrev pub match_models : ModelList → Query → Float → Result (List Name) Refusal
 match_models list query tolerance = answer query (matching_names (models_of list) query tolerance)

@@ -1,87 +1,56 @@
-// The models whose limits match a query: each of the three within the tolerance. The list is handed in
-// as a value.
+// The models whose limits match a query: each of the three within the tolerance. The list is handed in.
 #![tactic(auto)]
 
-ghost use Rattle.std.specs.Prelude.{◌≡◌, cond, ◌&&◌, min, ltb, take};
-ghost use Rattle.model_list.specs.Counted.{model_places, names_of};
+ghost use Rattle.std.specs.Prelude.{◌≡◌, ◌≤◌, length};
+ghost use Rattle.model_list.specs.Counted.{model_places};
 ghost use Rattle.model_match.specs.Matching as Spec;
 
-use model_list::{MODEL_PLACES, ModelList, MotorModelSpec, Names, no_names, places};
-use model_query::{Listing, Query, accepts_query, outcome_of};
+use model_list::{ModelList, MotorModelSpec, Names};
+use model_query::Query;
+use motor_core::error::Refusal;
+use motor_core::model::Maxima;
 
 // Whether the two are no further apart than the tolerance.
+#[tactic(auto, using(crate::proofs::Magnitude::magnitude_is), unfolding(crate::specs::Matching::within))]
 fn within(tol: f32, x: f32, y: f32) -> bool
     ensures { result ≡ Spec.within tol x y }
 {
-    let d = x - y;
-    d <= tol && -d <= tol
+    (x - y).abs() <= tol
 }
 
 #[tactic(auto, unfolding(crate::specs::Matching::matches))]
-fn matches(query: Query, tol: f32, spec: MotorModelSpec) -> bool
-    ensures { result ≡ Spec.matches query tol spec }
+fn matches(query: Query, tol: f32, spec: &MotorModelSpec) -> bool
+    ensures { result ≡ Spec.matches query tol spec.now }
 {
-    let maxima = spec.maxima;
-    within(tol, maxima.p_max, query.p)
-        && within(tol, maxima.v_max, query.v)
-        && within(tol, maxima.t_max, query.t)
+    let Maxima {
+        p_max,
+        v_max,
+        t_max,
+    } = spec.maxima;
+    within(tol, p_max, query.p) && within(tol, v_max, query.v) && within(tol, t_max, query.t)
 }
 
-// Whether the model at place i is one of the first `count` and matches.
-#[tactic(auto, using(model_query::proofs::Tests::neither))]
-fn counts(i: usize, count: usize, query: Query, tol: f32, spec: MotorModelSpec) -> bool
-    ensures { result ≡ (ltb i count && Spec.matches query tol spec) }
+// The names of the models that match.
+#[tactic(auto, unfolding(crate::specs::Matching::matching_names))]
+fn matching_names(models: &[MotorModelSpec], query: Query, tol: f32) -> Names
+    requires { length models.now ≤ model_places }
+    ensures { result ≡ Spec.matching_names models.now query tol }
 {
-    i < count && matches(query, tol, spec)
-}
-
-// The names of the first `count` models that match. One loop stands twice, for each half of the places:
-// the compiler unrolls a loop of eight, and then no part of the list is copied but names that match; one
-// of sixteen it does not, and each call writes the list anew.
-fn matching_names(list: ModelList, count: usize, query: Query, tol: f32) -> Names
-    ensures { result ≡ names_of (Spec.matching_names (take count list.models) query tol) }
-{
-    let mut found = no_names();
-    let mut n: usize = 0;
-    let mut i: usize = 0;
-    while i < MODEL_PLACES / 2 {
-        let spec = list.models[i];
-        if counts(i, count, query, tol, spec) {
-            let name = spec.model;
-            found.names[n] = name;
-            n += 1;
+    let mut found = Names::new();
+    for spec in models {
+        if matches(query, tol, spec) {
+            found.push(spec.model);
         }
-        i += 1;
     }
-    while i < MODEL_PLACES {
-        let spec = list.models[i];
-        if counts(i, count, query, tol, spec) {
-            let name = spec.model;
-            found.names[n] = name;
-            n += 1;
-        }
-        i += 1;
-    }
-    found.count = n as u8;
     found
-}
-
-// How many models are tried: none for a query that is not accepted.
-fn tried(accepted: bool, count: u8) -> usize
-    ensures { result ≡ cond accepted (min count model_places) 0 }
-{
-    if accepted { places(count) } else { 0 }
 }
 
 // The models, in the list's order, whose three limits each differ from the query's by no more than
 // the tolerance.
-#[tactic(auto, using(model_list::proofs::Lists::take_min, model_query::proofs::Answers::is_answer), unfolding(crate::specs::Matching::matching_names, model_list::specs::Counted::keep))]
-pub fn match_models_by_limits(list: ModelList, query: Query, tol: f32) -> Listing
-    ensures { result ≡ Spec.match_models list query tol }
+#[tactic(auto, unfolding(model_query::specs::Query::answer, model_query::specs::Query::checked))]
+pub fn match_models_by_limits(list: &ModelList, query: Query, tol: f32) -> Result<Names, Refusal>
+    ensures { result ≡ Spec.match_models list.now query tol }
 {
-    let accepted = accepts_query(query);
-    Listing {
-        outcome: outcome_of(accepted),
-        names: matching_names(list, tried(accepted, list.count), query, tol),
-    }
+    let query = query.checked()?;
+    Ok(matching_names(list.models(), query, tol))
 }

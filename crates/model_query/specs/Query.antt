@@ -5,8 +5,6 @@ use Rattle.std.specs.Float.Ieee.{le}
 use Rattle.motor_core.specs.declared.error.Refusal.{Refusal}
 use Rattle.motor_core.specs.declared.error.Refusal.TheVariants.{Query as RefusedQuery}
 use Rattle.motor_core.specs.declared.name.Name.{Name}
-use Rattle.model_list.specs.Counted.{names_of}
-use Rattle.model_list.specs.declared.Names.{Names}
 use Rattle.model_query.specs.declared.Query.{Query}
 
 -- 'Turned back', 11: accepted from -65,536 to 65,536, both included. A NaN compares with neither, an infinity lies beyond
@@ -21,11 +19,11 @@ unfoldable pub checked : Query → Result Query Refusal
 checked query = cond (query_accepted query) (Ok query) (Err RefusedQuery)
 
 -- names, or the refusal and no name
-abbrev pub listed : List Name → Result Names Refusal
-listed names = Ok (names_of names)
+abbrev pub listed : List Name → Result (List Name) Refusal
+listed names = Ok names
 
-abbrev pub refused : Result Names Refusal
+abbrev pub refused : Result (List Name) Refusal
 refused = Err RefusedQuery
 
-unfoldable pub answer : Query → List Name → Result Names Refusal
+unfoldable pub answer : Query → List Name → Result (List Name) Refusal
 answer query names = cond (query_accepted query) (listed names) refused
