@@ -4,186 +4,44 @@
 ghost use Rattle.std.specs.Prelude.{◌≡◌};
 ghost use Rattle.model_damiao.specs.Damiao.{damiao_models, list_of};
 
-use model_list::{MODEL_PLACES, Maxima, ModelList, MotorModelSpec};
+use model_list::{MODEL_PLACES, ModelList, MotorModelSpec};
+use motor_core::model::Maxima;
 use motor_core::name::Name;
 
+// A name, padded to fifteen bytes, its length, and the maxima of position, velocity and torque.
+macro_rules! model {
+    ($name:literal, $len:literal, $p_max:literal, $v_max:literal, $t_max:literal) => {
+        MotorModelSpec {
+            model: Name {
+                bytes: *$name,
+                len: $len,
+            },
+            maxima: Maxima {
+                p_max: $p_max,
+                v_max: $v_max,
+                t_max: $t_max,
+            },
+        }
+    };
+}
+
 const DAMIAO_MODELS: [MotorModelSpec; MODEL_PLACES] = [
-    MotorModelSpec {
-        model: Name {
-            bytes: *b"3507           ",
-            len: 4,
-        },
-        maxima: Maxima {
-            p_max: 12.566,
-            v_max: 50.0,
-            t_max: 5.0,
-        },
-    },
-    MotorModelSpec {
-        model: Name {
-            bytes: *b"4310           ",
-            len: 4,
-        },
-        maxima: Maxima {
-            p_max: 12.5,
-            v_max: 30.0,
-            t_max: 10.0,
-        },
-    },
-    MotorModelSpec {
-        model: Name {
-            bytes: *b"4310P          ",
-            len: 5,
-        },
-        maxima: Maxima {
-            p_max: 12.5,
-            v_max: 50.0,
-            t_max: 10.0,
-        },
-    },
-    MotorModelSpec {
-        model: Name {
-            bytes: *b"4340           ",
-            len: 4,
-        },
-        maxima: Maxima {
-            p_max: 12.5,
-            v_max: 10.0,
-            t_max: 28.0,
-        },
-    },
-    MotorModelSpec {
-        model: Name {
-            bytes: *b"4340P          ",
-            len: 5,
-        },
-        maxima: Maxima {
-            p_max: 12.5,
-            v_max: 10.0,
-            t_max: 28.0,
-        },
-    },
-    MotorModelSpec {
-        model: Name {
-            bytes: *b"4340_v20       ",
-            len: 8,
-        },
-        maxima: Maxima {
-            p_max: 12.5,
-            v_max: 20.0,
-            t_max: 28.0,
-        },
-    },
-    MotorModelSpec {
-        model: Name {
-            bytes: *b"6006           ",
-            len: 4,
-        },
-        maxima: Maxima {
-            p_max: 12.5,
-            v_max: 45.0,
-            t_max: 20.0,
-        },
-    },
-    MotorModelSpec {
-        model: Name {
-            bytes: *b"8006           ",
-            len: 4,
-        },
-        maxima: Maxima {
-            p_max: 12.5,
-            v_max: 45.0,
-            t_max: 40.0,
-        },
-    },
-    MotorModelSpec {
-        model: Name {
-            bytes: *b"8009           ",
-            len: 4,
-        },
-        maxima: Maxima {
-            p_max: 12.5,
-            v_max: 45.0,
-            t_max: 54.0,
-        },
-    },
-    MotorModelSpec {
-        model: Name {
-            bytes: *b"10010L         ",
-            len: 6,
-        },
-        maxima: Maxima {
-            p_max: 12.5,
-            v_max: 25.0,
-            t_max: 200.0,
-        },
-    },
-    MotorModelSpec {
-        model: Name {
-            bytes: *b"10010          ",
-            len: 5,
-        },
-        maxima: Maxima {
-            p_max: 12.5,
-            v_max: 20.0,
-            t_max: 200.0,
-        },
-    },
-    MotorModelSpec {
-        model: Name {
-            bytes: *b"H3510          ",
-            len: 5,
-        },
-        maxima: Maxima {
-            p_max: 12.5,
-            v_max: 280.0,
-            t_max: 1.0,
-        },
-    },
-    MotorModelSpec {
-        model: Name {
-            bytes: *b"G6215          ",
-            len: 5,
-        },
-        maxima: Maxima {
-            p_max: 12.5,
-            v_max: 45.0,
-            t_max: 10.0,
-        },
-    },
-    MotorModelSpec {
-        model: Name {
-            bytes: *b"H6220          ",
-            len: 5,
-        },
-        maxima: Maxima {
-            p_max: 12.5,
-            v_max: 45.0,
-            t_max: 10.0,
-        },
-    },
-    MotorModelSpec {
-        model: Name {
-            bytes: *b"JH11           ",
-            len: 4,
-        },
-        maxima: Maxima {
-            p_max: 12.5,
-            v_max: 10.0,
-            t_max: 12.0,
-        },
-    },
-    MotorModelSpec {
-        model: Name {
-            bytes: *b"6248P          ",
-            len: 5,
-        },
-        maxima: Maxima {
-            p_max: 12.566,
-            v_max: 20.0,
-            t_max: 120.0,
-        },
-    },
+    model!(b"3507           ", 4, 12.566, 50.0, 5.0),
+    model!(b"4310           ", 4, 12.5, 30.0, 10.0),
+    model!(b"4310P          ", 5, 12.5, 50.0, 10.0),
+    model!(b"4340           ", 4, 12.5, 10.0, 28.0),
+    model!(b"4340P          ", 5, 12.5, 10.0, 28.0),
+    model!(b"4340_v20       ", 8, 12.5, 20.0, 28.0),
+    model!(b"6006           ", 4, 12.5, 45.0, 20.0),
+    model!(b"8006           ", 4, 12.5, 45.0, 40.0),
+    model!(b"8009           ", 4, 12.5, 45.0, 54.0),
+    model!(b"10010L         ", 6, 12.5, 25.0, 200.0),
+    model!(b"10010          ", 5, 12.5, 20.0, 200.0),
+    model!(b"H3510          ", 5, 12.5, 280.0, 1.0),
+    model!(b"G6215          ", 5, 12.5, 45.0, 10.0),
+    model!(b"H6220          ", 5, 12.5, 45.0, 10.0),
+    model!(b"JH11           ", 4, 12.5, 10.0, 12.0),
+    model!(b"6248P          ", 5, 12.566, 20.0, 120.0),
 ];
 
 // The built-in list.
