@@ -1,2 +1,1 @@
 pub mod FirstPlaces
-pub mod Lists

@@ -1,4 +1,4 @@
-pub mod Inserting
 pub mod Nearness
 pub mod Order
 pub mod Ranking
+pub mod Sorting
