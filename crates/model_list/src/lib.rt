@@ -7,7 +7,7 @@ ghost use Rattle.model_list.specs.Models.{limits_by_name};
 
 use motor_core::error::Refusal;
 use motor_core::model::Maxima;
-use motor_core::name::{Name, spells};
+use motor_core::name::Name;
 use std::marker::Model;
 
 // How many models a list has room for, and so how many names an answer has.
@@ -79,7 +79,8 @@ impl Names {
     }
 
     pub fn as_slice(&self) -> &[Name]
-        ensures { result.now ≡ self.now }
+        ensures names { result.now ≡ self.now }
+        ensures room { length result.now ≤ model_places }
     {
         &self.names[..usize::from(self.count)]
     }
@@ -107,7 +108,7 @@ pub fn model_limits(list: &ModelList, name: &[u8]) -> Result<Maxima, Refusal>
     ensures { result ≡ limits_by_name (models_of list.now) name.now }
 {
     for spec in list.models() {
-        if spells(spec.model, name) {
+        if spec.model.spells(name) {
             return Ok(spec.maxima);
         }
     }

@@ -1,8 +1,9 @@
 -- The names that are shown to people. Definitions only.
-use Rattle.std.specs.Prelude.{Bool, false, cond, ◌||◌, List, [], ◌∷◌, ◌++◌}
+use Rattle.std.specs.Prelude.{Bool, cond, List, [], ◌∷◌, ◌++◌}
+use Rattle.std.specs.List.{list_any}
 use Rattle.text.specs.Ascii.{ascii}
 use Rattle.text.specs.Text.{same}
-use Rattle.motor_core.specs.Name.{name_of, spelling}
+use Rattle.motor_core.specs.Name.{name_of, spelling, spell_same}
 use Rattle.motor_core.specs.declared.name.Name.{Name}
 
 -- `display_model_name`: one model is shown under another name
@@ -12,8 +13,7 @@ display_name name = cond (same (spelling name) (ascii "4340_v20")) (name_of "434
 
 -- whether one of the names spells the same
 unfoldable pub among : Name → List Name → Bool
-among name [] = false
-among name (other ∷ rest) = same (spelling other) (spelling name) || among name rest
+among name names = list_any (λ (other : Name). spell_same other name) names
 
 -- the name put last, unless it is there
 unfoldable pub with_name : List Name → Name → List Name

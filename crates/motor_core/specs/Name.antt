@@ -1,5 +1,6 @@
 -- Names as byte strings. Definitions only.
-use Rattle.std.specs.Prelude.{ℕ, ◌-◌, List, ◌++◌, length, replicate, take}
+use Rattle.std.specs.Prelude.{ℕ, ◌-◌, Bool, List, ◌++◌, length, replicate, take, bytes_eq}
+use Rattle.std.specs.Ordering.{on}
 use Prim.Native.String.{String}
 use Rattle.text.specs.Ascii.{ascii}
 use Rattle.motor_core.specs.declared.name.Name.{Name}
@@ -12,3 +13,7 @@ name_of s = record { bytes = ascii s ++ replicate (15 - length (ascii s)) 0x20; 
 -- the bytes that a name spells
 abbrev pub spelling : Name → List ℕ
 spelling name = take name.len name.bytes
+
+-- whether two names spell the same
+abbrev pub spell_same : Name → Name → Bool
+spell_same = on spelling bytes_eq

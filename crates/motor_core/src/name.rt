@@ -1,39 +1,50 @@
 // Names as byte strings.
-ghost use Rattle.std.specs.Prelude.{◌≡◌, take};
+ghost use Rattle.std.specs.Prelude.{◌≡◌};
 ghost use Rattle.text.specs.Text.{same};
-ghost use Rattle.motor_core.specs.Name.{spelling};
+ghost use Rattle.motor_core.specs.Name.{spelling, spell_same};
 
 use text::same_bytes;
 
-// The first `len` bytes are the name; the others are spaces.
+// The first `len` bytes are the name; the others are spaces. The bytes are fixed: the core has no heap.
 #[derive(Clone, Copy)]
 pub struct Name {
     pub bytes: [u8; 15],
     pub len: u8,
 }
 
-// Whether the name spells these bytes.
-pub fn spells(name: Name, bytes: &[u8]) -> bool
-    ensures { result ≡ same (spelling name) bytes.now }
-{
-    let held = name.bytes;
-    same_bytes(first(&held, name.len as usize), bytes)
-}
-
-// Whether the two names spell the same.
-pub fn same_name(a: Name, b: Name) -> bool
-    ensures { result ≡ same (spelling a) (spelling b) }
-{
-    let held = b.bytes;
-    spells(a, first(&held, b.len as usize))
-}
-
-// The first `len` bytes, or all where there are no more.
-fn first(bytes: &[u8], len: usize) -> &[u8]
-    ensures { result.now ≡ take len bytes.now }
-{
-    if len < bytes.len() {
-        return &bytes[0..len];
+impl Name {
+    // The bytes that it spells: the first `len`, or all where there are no more.
+    pub fn as_bytes(&self) -> &[u8]
+        ensures { result.now ≡ spelling self.now }
+    {
+        let len = usize::from(self.len).min(self.bytes.len());
+        &self.bytes[..len]
     }
-    bytes
+
+    pub fn spells(&self, bytes: &[u8]) -> bool
+        ensures { result ≡ same (spelling self.now) bytes.now }
+    {
+        same_bytes(self.as_bytes(), bytes)
+    }
+}
+
+// Names are equal where they spell the same.
+impl PartialEq for Name {
+    ghost use Rattle.std.proofs.Common.{rules};
+    ghost use Rattle.std.specs.Cmp.Rules.{comparing};
+
+    ghost eq = { spell_same };
+
+    ghost laws = { Prim.search (comparing, rules) };
+
+    fn eq(&self, other: &Name) -> bool {
+        self.as_bytes() == other.as_bytes()
+    }
+}
+
+impl Eq for Name {
+    ghost use Rattle.std.proofs.Common.{rules};
+    ghost use Rattle.std.specs.Cmp.Rules.{comparing};
+
+    ghost laws = { Prim.search (comparing, rules) };
 }
