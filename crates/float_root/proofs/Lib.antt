@@ -2,6 +2,6 @@ pub mod WholeRoot
 pub mod RootRound
 pub mod RootNear
 pub mod RootLaw
-pub mod RootCases
+pub mod LibraryRoot
 pub mod BitsOrder
 pub mod AtLeastZero

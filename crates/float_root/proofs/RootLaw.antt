@@ -16,20 +16,20 @@ use Rattle.float_root.proofs.RootRound.{same_value, rounded_down, rounded_up}
 use Rattle.float_root.proofs.RootNear.{units_of, in_units_is, in_units_value, near_down, near_up}
 
 -- n as m * 4 ^ k, with an m of 47 or 48 digits
-record Scaled (n : ℕ) : Type 0 where
-  m : ℕ
-  k : ℕ
-  is : n ≡ m * 2 ^ (k + k)
-  m_ge : 2 ^ 46 ≤ m
-  m_lt : m < 2 ^ 48
-  k_ge : 51 ≤ k
-  k_lt : k < 250
+pub record Scaled (n : ℕ) : Type 0 where
+  pub m : ℕ
+  pub k : ℕ
+  pub is : n ≡ m * 2 ^ (k + k)
+  pub m_ge : 2 ^ 46 ≤ m
+  pub m_lt : m < 2 ^ 48
+  pub k_ge : 51 ≤ k
+  pub k_lt : k < 250
 
 power_lt : (a b : ℕ) → 2 ^ a < 2 ^ b → a < b
 power_lt a b h = lt_of_not-le (λ (g : b ≤ a). not-le_of_lt h (pow_mono g))
 
 -- d * 2 ^ j units, where d has z digits: 47 - z or 48 - z of the power's 2s go to the digits
-scaled : (d j : ℕ) → 0 < d → d < 2 ^ 24 → d * 2 ^ j < 2 ^ 277 → Scaled (d * 2 ^ j * 2 ^ 149)
+pub scaled : (d j : ℕ) → 0 < d → d < 2 ^ 24 → d * 2 ^ j < 2 ^ 277 → Scaled (d * 2 ^ j * 2 ^ 149)
 scaled d j D few fine =
     let z = size d in
     let some : 0 < z = lt_of_not-le (λ (g : z ≤ 0). not-le_of_lt (lt_of_lt_of_le (size-lt d) (pow_mono g)) D) in

@@ -1,7 +1,7 @@
 -- `rounded_root` of m * 4 ^ k, with an m of 47 or 48 binary digits, by the whole part s of m's root: s units of 2 ^ k, or s + 1. The cut to whole units does not show, since k is 51 at least. Assumes nothing.
 use mathlib.Core.Path.{◌≡◌, refl, sym, ap, ◌∙◌, subst}
 use Prim.Native.Nat.{ℕ, suc, ◌+◌, ◌-◌, ◌*◌, ◌/◌, ◌%◌, ◌^◌, ◌≤◌, ◌<◌, compare, Ordering}
-use native.Mathlib.Nat.{le_refl, le_trans, le_of_eq, le_antisymm, le_of_suc-le-suc, lt_of_le_of_lt, lt_of_lt_of_le, lt_of_not-le, not-le_of_lt, le-add_right, mul-le-mul_right, mul-lt-mul_of_pos_right, mul-pos, mul_assoc, mul-div_cancel, pow-suc}
+use native.Mathlib.Nat.{le_refl, le_trans, le_of_eq, le_antisymm, le_of_suc-le-suc, lt_of_le_of_lt, lt_of_lt_of_le, lt_of_not-le, not-le_of_lt, le-add_right, mul-le-mul_right, mul-lt-mul_of_pos_right, mul-pos, mul_assoc, mul-div_cancel, pow-suc, add-zero, le-div_iff_mul-le, div-lt_iff_lt-mul}
 use native.Mathlib.Numerals.{add-one}
 use native.Mathlib.Omega.{arith}
 use mathlib.Core.Bool.{Bool, true, false, not, cond}
@@ -12,7 +12,7 @@ use lib.Ieee.Digits.{size-lt, size-le}
 use lib.Ieee.Fits.{down_pos, round-fits}
 use lib.Ieee.Bits.{of_bits-to_bits, of_bits-fits, nan_bits_is}
 use lib.Ieee.Exact.{HasValue}
-use lib.Ieee.Nearest.{closest, closest_same}
+use lib.Ieee.Nearest.{closest, closest_same, div_same}
 use lib.Ieee.Order.{drop}
 use lib.Ieee.Scale.{grid, round_val}
 use Rattle.float_root.specs.Root.{whole_root, rounded_root, in_units}
@@ -120,30 +120,42 @@ nearest_gt s a b h = go (compare a b) (cmp a b)
 size_gt : (n j : ℕ) → 2 ^ j ≤ n → j < size n
 size_gt n j h = lt_of_not-le (λ (g : size n ≤ j). not-le_of_lt (lt_of_lt_of_le (size-lt n) (pow_mono g)) h)
 
--- a w between s * 2 ^ k and (s + 1) * 2 ^ k, for an s of 24 digits, drops k
-drops : (s k w : ℕ) → 2 ^ 23 ≤ s → s < 2 ^ 24 → s * 2 ^ k ≤ w → w < (s + 1) * 2 ^ k → drop 24 (w * 2 ^ 149) (2 ^ 149) ≡ k
-drops s k w lo hi a b =
-    ap (λ (q : ℕ). size q - 24) (mul-div_cancel w (pow_pos 149))
-    ∙ exact (size w) k (size_gt w (23 + k) (le_trans (le_of_eq (pow-add 2 23 k)) (le_trans (mul-le-mul_right (2 ^ k) lo) a)))
-    (size-le w (24 + k) (lt_of_lt_of_le b (le_trans (mul-le-mul_right (2 ^ k) (le_trans (le_of_eq (add-one s)) hi)) (le_of_eq (sym (pow-add 2 24 k))))))
+-- w parts of a unit that has 2 ^ t of them, between s * 2 ^ k units and (s + 1) * 2 ^ k, for an s of 24 digits: it drops k
+drops : (s k t w : ℕ) → 2 ^ 23 ≤ s → s < 2 ^ 24 → s * 2 ^ k * 2 ^ t ≤ w → w < (s + 1) * 2 ^ k * 2 ^ t → drop 24 (w * 2 ^ 149) (2 ^ (149 + t)) ≡ k
+drops s k t w lo hi a b =
+    let q = w / 2 ^ t in
+    let over : s * 2 ^ k ≤ q = (le-div_iff_mul-le (pow_pos t)).1 a in
+    let under : q < (s + 1) * 2 ^ k = (div-lt_iff_lt-mul (pow_pos t)).1 b in
+    ap (λ (q : ℕ). size q - 24) (div_same (w * 2 ^ 149) (2 ^ (149 + t)) w (2 ^ t) (pow_pos (149 + t)) (pow_pos t) (mul_assoc w (2 ^ 149) (2 ^ t) ∙ ap (λ (x : ℕ). w * x) (sym (pow-add 2 149 t))))
+    ∙ exact (size q) k (size_gt q (23 + k) (le_trans (le_of_eq (pow-add 2 23 k)) (le_trans (mul-le-mul_right (2 ^ k) lo) over)))
+    (size-le q (24 + k) (lt_of_lt_of_le under (le_trans (mul-le-mul_right (2 ^ k) (le_trans (le_of_eq (add-one s)) hi)) (le_of_eq (sym (pow-add 2 24 k))))))
   where
     exact : (z k : ℕ) → 23 + k < z → z ≤ 24 + k → z - 24 ≡ k
     exact z k h j = omega arith
 
-grid_is : (s k w y : ℕ) → 2 ^ 23 ≤ s → s < 2 ^ 24 → s * 2 ^ k ≤ w → w < (s + 1) * 2 ^ k → closest w (2 ^ k) ≡ y → grid binary32 w (2 ^ 149) ≡ y * 2 ^ k
-grid_is s k w y lo hi a b e =
-    ap (λ (j : ℕ). closest (w * 2 ^ 149) (2 ^ 149 * 2 ^ j) * 2 ^ j) (drops s k w lo hi a b)
-    ∙ ap (λ (q : ℕ). q * 2 ^ k) (closest_same (w * 2 ^ 149) (2 ^ 149 * 2 ^ k) w (2 ^ k) (mul-pos (pow_pos 149) (pow_pos k)) (pow_pos k) (mul_assoc w (2 ^ 149) (2 ^ k)) ∙ e)
+grid_is : (s k t w y : ℕ) → 2 ^ 23 ≤ s → s < 2 ^ 24 → s * 2 ^ k * 2 ^ t ≤ w → w < (s + 1) * 2 ^ k * 2 ^ t → closest w (2 ^ (k + t)) ≡ y → grid binary32 w (2 ^ (149 + t)) ≡ y * 2 ^ k
+grid_is s k t w y lo hi a b e =
+    ap (λ (j : ℕ). closest (w * 2 ^ 149) (2 ^ (149 + t) * 2 ^ j) * 2 ^ j) (drops s k t w lo hi a b)
+    ∙ ap (λ (q : ℕ). q * 2 ^ k) (closest_same (w * 2 ^ 149) (2 ^ (149 + t) * 2 ^ k) w (2 ^ (k + t)) (mul-pos (pow_pos (149 + t)) (pow_pos k)) (pow_pos (k + t)) same ∙ e)
+  where
+    around : (w a b c : ℕ) → w * a * (b * c) ≡ w * (a * c * b)
+    around w a b c = omega arith
 
--- so where w is closest to y * 2 ^ k it rounds to the pattern
-rounds_to : (s k w y : ℕ) → 2 ^ 23 ≤ s → s < 2 ^ 24 → s ≤ y → y ≤ s + 1 → k < 250 → s * 2 ^ k ≤ w → w < (s + 1) * 2 ^ k → closest w (2 ^ k) ≡ y → round binary32 false w (2 ^ 149) ≡ of_bits binary32 (k * 8388608 + y)
-rounds_to s k w y lo hi sy ys K a b e =
-    same_value (round binary32 false w (2 ^ 149)) (of_bits binary32 (k * 8388608 + y)) (y * 2 ^ k) (round-fits binary32 false w (2 ^ 149)) (of_bits-fits binary32 (k * 8388608 + y))
-    (subst (λ (g : ℕ). HasValue (round binary32 false w (2 ^ 149)) false g (2 ^ 149)) is (round_val binary32 w (2 ^ 149) (subst (λ (g : ℕ). g < 2 ^ 277) (sym is) fine)))
+    same : w * 2 ^ 149 * 2 ^ (k + t) ≡ w * (2 ^ (149 + t) * 2 ^ k)
+    same = ap (λ (x : ℕ). w * 2 ^ 149 * x) (pow-add 2 k t) ∙ around w (2 ^ 149) (2 ^ k) (2 ^ t) ∙ ap (λ (x : ℕ). w * (x * 2 ^ k)) (sym (pow-add 2 149 t))
+
+-- so where w is closest to y * 2 ^ k units it rounds to the pattern
+pub rounds_to : (s k t w y : ℕ) → 2 ^ 23 ≤ s → s < 2 ^ 24 → s ≤ y → y ≤ s + 1 → k < 250 → s * 2 ^ (k + t) ≤ w → w < (s + 1) * 2 ^ (k + t) → closest w (2 ^ (k + t)) ≡ y → round binary32 false w (2 ^ (149 + t)) ≡ of_bits binary32 (k * 8388608 + y)
+rounds_to s k t w y lo hi sy ys K a b e =
+    same_value (round binary32 false w (2 ^ (149 + t))) (of_bits binary32 (k * 8388608 + y)) (y * 2 ^ k) (round-fits binary32 false w (2 ^ (149 + t))) (of_bits-fits binary32 (k * 8388608 + y))
+    (subst (λ (g : ℕ). HasValue (round binary32 false w (2 ^ (149 + t))) false g (2 ^ 149)) is (round_val binary32 w (2 ^ (149 + t)) (subst (λ (g : ℕ). g < 2 ^ 277) (sym is) fine)))
     (pattern_value k y (le_trans lo sy) top_y K)
   where
-    is : grid binary32 w (2 ^ 149) ≡ y * 2 ^ k
-    is = grid_is s k w y lo hi a b e
+    parts : (s : ℕ) → s * 2 ^ (k + t) ≡ s * 2 ^ k * 2 ^ t
+    parts s = ap (λ (x : ℕ). s * x) (pow-add 2 k t) ∙ sym (mul_assoc s (2 ^ k) (2 ^ t))
+
+    is : grid binary32 w (2 ^ (149 + t)) ≡ y * 2 ^ k
+    is = grid_is s k t w y lo hi (subst (λ (x : ℕ). x ≤ w) (parts s) a) (subst (λ (x : ℕ). w < x) (parts (s + 1)) b) e
 
     top_y : y ≤ 2 ^ 24
     top_y = le_trans ys (le_trans (le_of_eq (add-one s)) hi)
@@ -153,6 +165,11 @@ rounds_to s k w y lo hi sy ys K a b e =
 
     fine : y * 2 ^ k < 2 ^ 277
     fine = lt_of_le_of_lt (le_trans (mul-le-mul_right (2 ^ k) top_y) (le_of_eq (sym (pow-add 2 24 k)))) (pow-lt (room k K))
+
+-- w whole units
+rounds_units : (s k w y : ℕ) → 2 ^ 23 ≤ s → s < 2 ^ 24 → s ≤ y → y ≤ s + 1 → k < 250 → s * 2 ^ k ≤ w → w < (s + 1) * 2 ^ k → closest w (2 ^ k) ≡ y → round binary32 false w (2 ^ 149) ≡ of_bits binary32 (k * 8388608 + y)
+rounds_units s k w y lo hi sy ys K a b e =
+    rounds_to s k 0 w y lo hi sy ys K (subst (λ (j : ℕ). s * 2 ^ j ≤ w) (sym (add-zero k)) a) (subst (λ (j : ℕ). w < (s + 1) * 2 ^ j) (sym (add-zero k)) b) (ap (λ (j : ℕ). closest w (2 ^ j)) (add-zero k) ∙ e)
 
 -- ---- the whole root w of m * p * p against the multiples of p, and against their halves
 from_below : (m s p : ℕ) → s * s ≤ m → s * p ≤ whole_root (m * (p * p))
@@ -185,7 +202,7 @@ above_half m s h small H g =
     squares m s h a b c = omega arith
 
 -- ---- which of the two is closest
-closest_down : (s k w : ℕ) → s * 2 ^ k ≤ w → w < (s + 1) * 2 ^ k → 2 * w < (2 * s + 1) * 2 ^ k → closest w (2 ^ k) ≡ s
+pub closest_down : (s k w : ℕ) → s * 2 ^ k ≤ w → w < (s + 1) * 2 ^ k → 2 * w < (2 * s + 1) * 2 ^ k → closest w (2 ^ k) ≡ s
 closest_down s k w a b h =
     let p = 2 ^ k in
     ap (λ (x : ℕ). closest x p) (sym (split s p w a)) ∙ closest_is s k (w - s * p) (rest s p w a b) ∙ nearest_lt s ((w - s * p) * 2) p (half s p w a h)
@@ -199,7 +216,7 @@ closest_down s k w a b h =
     half : (s p w : ℕ) → s * p ≤ w → 2 * w < (2 * s + 1) * p → (w - s * p) * 2 < p
     half s p w a h = omega arith
 
-closest_up : (s k w : ℕ) → s * 2 ^ k ≤ w → w < (s + 1) * 2 ^ k → (2 * s + 1) * 2 ^ k < 2 * w → closest w (2 ^ k) ≡ s + 1
+pub closest_up : (s k w : ℕ) → s * 2 ^ k ≤ w → w < (s + 1) * 2 ^ k → (2 * s + 1) * 2 ^ k < 2 * w → closest w (2 ^ k) ≡ s + 1
 closest_up s k w a b h =
     let p = 2 ^ k in
     ap (λ (x : ℕ). closest x p) (sym (split s p w a)) ∙ closest_is s k (w - s * p) (rest s p w a b) ∙ nearest_gt s ((w - s * p) * 2) p (half s p w a h) ∙ sym (add-one s)
@@ -241,7 +258,7 @@ module _ (m k s : ℕ) (m_ge : 2 ^ 46 ≤ m) (m_lt : m < 2 ^ 48) (k_ge : 51 ≤ 
       let w = whole_root (m * (p * p)) in
       let a = from_below m s p lo in
       let b = from_above m s p (pow_pos k) hi in
-      at_square s (rounds_to s k w s s_ge s_lt (le_refl s) (le-add_right s 1) k_lt a b (closest_down s k w a b (below_half m s p (pow_pos k) h)))
+      at_square s (rounds_units s k w s s_ge s_lt (le_refl s) (le-add_right s 1) k_lt a b (closest_down s k w a b (below_half m s p (pow_pos k) h)))
 
   over_half : s * s + s < m → (2 * s + 1) * 2 ^ k < 2 * whole_root (m * (2 ^ k * 2 ^ k))
   over_half h =
@@ -273,4 +290,4 @@ module _ (m k s : ℕ) (m_ge : 2 ^ 46 ≤ m) (m_lt : m < 2 ^ 48) (k_ge : 51 ≤ 
       let w = whole_root (m * (p * p)) in
       let a = from_below m s p lo in
       let b = from_above m s p (pow_pos k) hi in
-      at_square (s + 1) (rounds_to s k w (s + 1) s_ge s_lt (le-add_right s 1) (le_refl (s + 1)) k_lt a b (closest_up s k w a b (over_half h)))
+      at_square (s + 1) (rounds_units s k w (s + 1) s_ge s_lt (le-add_right s 1) (le_refl (s + 1)) k_lt a b (closest_up s k w a b (over_half h)))
