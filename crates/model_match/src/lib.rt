@@ -10,12 +10,14 @@ use model_query::Query;
 use motor_core::error::Refusal;
 use motor_core::model::Maxima;
 
-// Whether the two are no further apart than the tolerance.
-#[tactic(auto, using(crate::proofs::Magnitude::magnitude_is), unfolding(crate::specs::Matching::within))]
+// Whether the two are no further apart than the tolerance. Two tests: with `abs` a match takes a fifth
+// longer.
+#[tactic(auto, using(crate::proofs::Magnitude::first_fails, crate::proofs::Magnitude::second_test), unfolding(crate::specs::Matching::within))]
 fn within(tol: f32, x: f32, y: f32) -> bool
     ensures { result ≡ Spec.within tol x y }
 {
-    (x - y).abs() <= tol
+    let d = x - y;
+    d <= tol && -d <= tol
 }
 
 #[tactic(auto, unfolding(crate::specs::Matching::matches))]
