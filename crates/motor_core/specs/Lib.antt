@@ -2,3 +2,4 @@ pub mod Bus
 pub mod Error
 pub mod Model
 pub mod Name
+pub mod Outcome

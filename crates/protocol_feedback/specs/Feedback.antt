@@ -1,17 +1,16 @@
 -- What a feedback frame says. Its data bytes d0 to d7 are a list. Definitions only.
-use Rattle.std.specs.Prelude.{ℕ, ◌+◌, ◌*◌, ◌/◌, ◌%◌, List, Float}
+use Rattle.std.specs.Prelude.{ℕ, ◌+◌, ◌*◌, ◌/◌, ◌%◌, List, Float, Result, Ok}
 use Rattle.motor_core.specs.Model.{limits_of}
 use Rattle.motor_core.specs.declared.model.PvTLimits.{PvTLimits}
-use Rattle.motor_core.specs.declared.model.LimitCheck.{LimitCheck}
-use Rattle.motor_core.specs.declared.model.LimitCheck.TheVariants.{Accepted, Refused as BadLimits}
+use Rattle.motor_core.specs.Outcome.{and_then}
+use Rattle.motor_core.specs.declared.error.Refusal.{Refusal}
+use Rattle.motor_core.specs.declared.model.Maxima.{Maxima}
 use Rattle.float.specs.Arithmetic.{float}
 use Rattle.protocol_codes.specs.Codes.{uint_to_float}
 use Rattle.protocol_frame.specs.Layout.{d}
 use Rattle.protocol_feedback.specs.declared.SensorFeedback.{SensorFeedback}
-use Rattle.protocol_feedback.specs.declared.Decoded.{Decoded}
-use Rattle.protocol_feedback.specs.declared.Decoded.TheVariants.{Feedback, Refused}
 
--- 'The feedback on the screen', feedback: d1 to d5 are three codes of 16, 12 and 12 bits
+-- d1 to d5 are three codes of 16, 12 and 12 bits
 abbrev pub position_code : List ℕ → ℕ
 position_code bytes = d bytes 1 * 256 + d bytes 2
 
@@ -30,7 +29,7 @@ velocity l bytes = uint_to_float 12 (velocity_code bytes) l.v_min l.v_max
 abbrev pub torque : PvTLimits → List ℕ → Float
 torque l bytes = uint_to_float 12 (torque_code bytes) l.t_min l.t_max
 
--- the same: d0 is two fields of four bits, d6 and d7 are whole numbers as floats
+-- d0 is two fields of four bits, d6 and d7 are whole numbers as floats
 unfoldable pub feedback_of : PvTLimits → List ℕ → SensorFeedback
 feedback_of l bytes = record {
   can_id = d bytes 0 % 16;
@@ -42,10 +41,6 @@ feedback_of l bytes = record {
   t_rotor = float (d bytes 7);
 }
 
-abbrev pub by_limits : LimitCheck → List ℕ → Decoded
-by_limits (Accepted l) bytes = Feedback (feedback_of l bytes)
-by_limits (BadLimits n) bytes = Refused n
-
--- any eight bytes as feedback; refusal 1
-unfoldable pub decoded : Float → Float → Float → List ℕ → Decoded
-decoded p v t bytes = by_limits (limits_of p v t) bytes
+-- any eight bytes as feedback, unless the limits are refused
+unfoldable pub decoded : Maxima → List ℕ → Result SensorFeedback Refusal
+decoded m bytes = and_then (limits_of m) (λ l. Ok (feedback_of l bytes))

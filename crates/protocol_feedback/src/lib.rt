@@ -6,7 +6,8 @@ ghost use Rattle.float.specs.Arithmetic.{float};
 ghost use Rattle.protocol_codes.specs.Codes.{bits_in, uint_to_float};
 ghost use Rattle.protocol_feedback.specs.Feedback as Spec;
 
-use motor_core::model::{LimitCheck, PvTLimits};
+use motor_core::error::Refusal;
+use motor_core::model::{Maxima, PvTLimits, from_maxima};
 use protocol_codes::{Width, full_scale};
 
 #[derive(Clone, Copy)]
@@ -18,12 +19,6 @@ pub struct SensorFeedback {
     pub torq: f32,
     pub t_mos: f32,
     pub t_rotor: f32,
-}
-
-#[derive(Clone, Copy)]
-pub enum Decoded {
-    Feedback(SensorFeedback),
-    Refused(u8),
 }
 
 // What a code stands for, from x_min to x_max.
@@ -90,12 +85,9 @@ pub fn decode_sensor_feedback(data: [u8; 8], limits: PvTLimits) -> SensorFeedbac
 }
 
 #[tactic(auto, unfolding(crate::specs::Feedback::decoded))]
-pub fn decode_feedback(p_max: f32, v_max: f32, t_max: f32, data: [u8; 8]) -> Decoded
-    ensures { result ≡ Spec.decoded p_max v_max t_max «data» }
+pub fn decode_feedback(maxima: Maxima, data: [u8; 8]) -> Result<SensorFeedback, Refusal>
+    ensures { result ≡ Spec.decoded maxima «data» }
 {
-    let made = motor_core::model::from_maxima(p_max, v_max, t_max);
-    match made {
-        LimitCheck::Refused(n) => Decoded::Refused(n),
-        LimitCheck::Accepted(limits) => Decoded::Feedback(decode_sensor_feedback(data, limits)),
-    }
+    let limits = from_maxima(maxima)?;
+    Ok(decode_sensor_feedback(data, limits))
 }

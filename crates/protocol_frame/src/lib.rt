@@ -6,13 +6,13 @@ ghost use Rattle.std.specs.Prelude.{◌≡◌, ◌%◌};
 ghost use Rattle.protocol_frame.specs.Layout.{packed, little_endian, data_bytes};
 ghost use Rattle.protocol_frame.specs.Command as Spec;
 
-use motor_core::error::MOTOR_ID;
+use motor_core::error::Refusal;
 
-// A frame's arbitration id and data, or the number of a refusal.
+// A frame that is to be sent.
 #[derive(Clone, Copy)]
-pub enum Command {
-    Frame(u32, u64),
-    Refused(u8),
+pub struct Command {
+    pub arbitration_id: u32,
+    pub data: u64,
 }
 
 // The four bytes of a number, lowest first.
@@ -51,12 +51,15 @@ pub fn data_bytes(data: u64) -> [u8; 8]
 
 // The frame, unless the motor id is refused.
 #[tactic(auto, unfolding(crate::specs::Command::frame_for))]
-pub fn frame_for(motor_id: u16, arbitration_id: u32, data: u64) -> Command
+pub fn frame_for(motor_id: u16, arbitration_id: u32, data: u64) -> Result<Command, Refusal>
     ensures { result ≡ Spec.frame_for motor_id arbitration_id «data» }
 {
     if motor_core::bus::accepts_motor_id(motor_id) {
-        Command::Frame(arbitration_id, data)
+        Ok(Command {
+            arbitration_id,
+            data,
+        })
     } else {
-        Command::Refused(MOTOR_ID)
+        Err(Refusal::MotorId)
     }
 }

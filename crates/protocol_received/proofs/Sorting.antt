@@ -1,16 +1,15 @@
 -- A frame as it is sorted, from what the lookup of its register says. Assumes nothing.
 use Rattle.motor_core.proofs.Turned.{clash}
-use mathlib.Core.Path.{◌≡◌, refl, ap, ◌∙◌}
+use mathlib.Core.Path.{◌≡◌, refl, sym, ap, ◌∙◌}
 use mathlib.Core.Bool.{Bool, true, false, cond}
 use mathlib.Core.List.{List}
 use Prim.Native.Nat.{ℕ}
+use Rattle.std.specs.Prelude.{Option, Some, None}
 use Rattle.motor_core.specs.declared.model.PvTLimits.{PvTLimits}
-use Rattle.registers.specs.Registers.{known, access_of, data_type_of, info_of}
-use Rattle.registers.specs.declared.RegisterAccess.{RegisterAccess}
+use Rattle.registers.specs.Registers.{known, data_type_of, info_of}
 use Rattle.registers.specs.declared.RegisterDataType.{RegisterDataType}
 use Rattle.registers.specs.declared.RegisterInfo.{RegisterInfo}
-use Rattle.registers.specs.declared.RegisterInfo.TheVariants.{Unknown, Known}
-use Rattle.registers.proofs.Codes.{info_known}
+use Rattle.registers.proofs.Codes.{info, info_known}
 use Rattle.protocol_frame.specs.Layout.{d}
 use Rattle.protocol_feedback.specs.Feedback.{feedback_of}
 use Rattle.protocol_received.specs.Received.{class_of, typed_value, register_value, sorted_as, sorted, by_class, received}
@@ -21,23 +20,26 @@ use Rattle.protocol_received.specs.declared.Received.TheVariants as Receive
 use Rattle.protocol_received.specs.declared.Sorted.{Sorted}
 use Rattle.protocol_received.specs.declared.Sorted.TheVariants as Sort
 
-module _ (rid : ℕ) (info : RegisterInfo) (looked : info ≡ info_of rid) where
-  info_unknown : known rid ≡ false → info_of rid ≡ Unknown
+module _ (rid : ℕ) (found : Option RegisterInfo) (looked : found ≡ info_of rid) where
+  info_unknown : known rid ≡ false → info_of rid ≡ None
   unfolding info_of
-  info_unknown k = ap (λ (b : Bool). cond b (Known (access_of rid) (data_type_of rid)) Unknown) k
+  info_unknown k = ap (λ (b : Bool). cond b (Some (info rid)) None) k
 
-  pub not_known : info ≡ Unknown → known rid ≡ false
+  pub not_known : found ≡ None → known rid ≡ false
   not_known e = go (known rid) refl
     where
       go : (b : Bool) → known rid ≡ b → known rid ≡ false
       go true k = absurd (clash (cc (info_known rid k)))
       go false k = k
 
-  pub is_known : (a : RegisterAccess) (t : RegisterDataType) → info ≡ Known a t → (known rid ≡ true) × (t ≡ data_type_of rid)
-  is_known a t e = go (known rid) refl
+  pub is_known : (x : RegisterInfo) → found ≡ Some x → (known rid ≡ true) × (x.data_type ≡ data_type_of rid)
+  is_known x e = go (known rid) refl
     where
-      go : (b : Bool) → known rid ≡ b → (known rid ≡ true) × (t ≡ data_type_of rid)
-      go true k = (k, cc (info_known rid k))
+      the_same : (y : RegisterInfo) → Some y ≡ Some (info rid) → y ≡ info rid
+      the_same y h = cc
+
+      go : (b : Bool) → known rid ≡ b → (known rid ≡ true) × (x.data_type ≡ data_type_of rid)
+      go true k = (k, ap (λ (r : RegisterInfo). r.data_type) (the_same x (sym e ∙ looked ∙ info_known rid k)))
       go false k = absurd (clash (cc (info_unknown k)))
 
 -- by its class, and the type that was looked up

@@ -6,7 +6,7 @@ ghost use Rattle.protocol_received.specs.Received as Spec;
 
 use motor_core::model::PvTLimits;
 use protocol_feedback::{SensorFeedback, decode_sensor_feedback};
-use registers::{RegisterDataType, RegisterInfo, RegisterValue};
+use registers::{RegisterDataType, RegisterValue};
 
 #[derive(Clone, Copy)]
 pub enum FrameClass {
@@ -31,11 +31,16 @@ pub enum Received {
     Feedback(SensorFeedback),
 }
 
+// The third byte of a register's reply and of an ack.
+const REPLY: u8 = 0x33;
+
+const ACK: u8 = 0x55;
+
 // Whether d1 and d2 are a register frame's.
 fn marks_register(d1: u8, d2: u8) -> bool
     ensures { result ≡ (leb d1 0x0f && (eqb d2 0x33 || eqb d2 0x55)) }
 {
-    d1 <= 0x0f && ((d2 == 0x33) | (d2 == 0x55))
+    d1 <= 0x0f && (d2 == REPLY || d2 == ACK)
 }
 
 // The register is looked up once, for the class and for the type.
@@ -46,16 +51,10 @@ fn sort_frame(data: [u8; 8]) -> Sorted
     if !marks_register(data[1], marker) {
         return Sorted::Feedback;
     }
-    let info = registers::register_info(data[3]);
-    match info {
-        RegisterInfo::Unknown => Sorted::Feedback,
-        RegisterInfo::Known(_, data_type) => {
-            if marker == 0x33 {
-                Sorted::Reply(data_type)
-            } else {
-                Sorted::Ack(data_type)
-            }
-        }
+    match registers::register_info(data[3]) {
+        None => Sorted::Feedback,
+        Some(info) if marker == REPLY => Sorted::Reply(info.data_type),
+        Some(info) => Sorted::Ack(info.data_type),
     }
 }
 

@@ -1,12 +1,13 @@
 -- Requests to the motor: register reads and writes, storing, feedback; and disable, zero and clear, which only their last byte tells apart. Definitions only.
-use Rattle.std.specs.Prelude.{ℕ, List, [], ◌∷◌, ◌++◌}
+use Rattle.std.specs.Prelude.{ℕ, List, [], ◌∷◌, ◌++◌, Result}
 use Rattle.protocol_frame.specs.Layout.{Field, byte, packed, packed_onto, little_endian, bytes}
 use Rattle.protocol_frame.specs.Command.{frame_for}
+use Rattle.motor_core.specs.declared.error.Refusal.{Refusal}
 use Rattle.protocol_frame.specs.declared.Command.{Command}
 
 -- ---- the eight data bytes
 
--- 'The command bytes', requests: the motor id, lowest byte first, and what follows it
+-- the motor id, lowest byte first, and what follows it
 unfoldable pub addressed : ℕ → List Field → ℕ
 unfolding packed_onto little_endian
 addressed motor rest = packed (little_endian 2 motor ++ rest)
@@ -42,24 +43,24 @@ disable_data = special 0xfd
 abbrev pub request_id : ℕ
 request_id = 0x7ff
 
-abbrev pub register_read_cmd : ℕ → ℕ → Command
+abbrev pub register_read_cmd : ℕ → ℕ → Result Command Refusal
 register_read_cmd motor rid = frame_for motor request_id (register_read_data motor rid)
 
-abbrev pub register_write_cmd : ℕ → ℕ → ℕ → Command
+abbrev pub register_write_cmd : ℕ → ℕ → ℕ → Result Command Refusal
 register_write_cmd motor rid bits = frame_for motor request_id (register_write_data motor rid bits)
 
-abbrev pub store_params_cmd : ℕ → Command
+abbrev pub store_params_cmd : ℕ → Result Command Refusal
 store_params_cmd motor = frame_for motor request_id (store_params_data motor)
 
-abbrev pub feedback_request_cmd : ℕ → Command
+abbrev pub feedback_request_cmd : ℕ → Result Command Refusal
 feedback_request_cmd motor = frame_for motor request_id (feedback_request_data motor)
 
 -- the others go to the motor id
-abbrev pub disable_cmd : ℕ → Command
+abbrev pub disable_cmd : ℕ → Result Command Refusal
 disable_cmd motor = frame_for motor motor disable_data
 
-abbrev pub set_zero_cmd : ℕ → Command
+abbrev pub set_zero_cmd : ℕ → Result Command Refusal
 set_zero_cmd motor = frame_for motor motor (special 0xfe)
 
-abbrev pub clear_error_cmd : ℕ → Command
+abbrev pub clear_error_cmd : ℕ → Result Command Refusal
 clear_error_cmd motor = frame_for motor motor (special 0xfb)

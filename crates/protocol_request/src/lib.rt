@@ -6,6 +6,7 @@ ghost use Rattle.std.specs.Prelude.{◌≡◌, [], ◌∷◌};
 ghost use Rattle.protocol_frame.specs.Layout.{field, byte};
 ghost use Rattle.protocol_request.specs.Request as Spec;
 
+use motor_core::error::Refusal;
 use protocol_frame::Command;
 
 // The arbitration id of register and store commands and of feedback requests.
@@ -63,7 +64,7 @@ pub fn encode_disable_cmd() -> u64
 }
 
 #[tactic(auto, unfolding(protocol_frame::specs::Command::frame_for))]
-pub fn register_read_cmd(motor_id: u16, rid: u8) -> Command
+pub fn register_read_cmd(motor_id: u16, rid: u8) -> Result<Command, Refusal>
     ensures { result ≡ Spec.register_read_cmd motor_id rid }
 {
     protocol_frame::frame_for(
@@ -74,7 +75,7 @@ pub fn register_read_cmd(motor_id: u16, rid: u8) -> Command
 }
 
 #[tactic(auto, unfolding(protocol_frame::specs::Command::frame_for))]
-pub fn register_write_cmd(motor_id: u16, rid: u8, bits: u32) -> Command
+pub fn register_write_cmd(motor_id: u16, rid: u8, bits: u32) -> Result<Command, Refusal>
     ensures { result ≡ Spec.register_write_cmd motor_id rid bits }
 {
     protocol_frame::frame_for(
@@ -85,35 +86,35 @@ pub fn register_write_cmd(motor_id: u16, rid: u8, bits: u32) -> Command
 }
 
 #[tactic(auto, unfolding(protocol_frame::specs::Command::frame_for))]
-pub fn store_params_cmd(motor_id: u16) -> Command
+pub fn store_params_cmd(motor_id: u16) -> Result<Command, Refusal>
     ensures { result ≡ Spec.store_params_cmd motor_id }
 {
     protocol_frame::frame_for(motor_id, REQUEST_ID, encode_store_params_cmd(motor_id))
 }
 
 #[tactic(auto, unfolding(protocol_frame::specs::Command::frame_for))]
-pub fn feedback_request_cmd(motor_id: u16) -> Command
+pub fn feedback_request_cmd(motor_id: u16) -> Result<Command, Refusal>
     ensures { result ≡ Spec.feedback_request_cmd motor_id }
 {
     protocol_frame::frame_for(motor_id, REQUEST_ID, encode_feedback_request_cmd(motor_id))
 }
 
 #[tactic(auto, unfolding(protocol_frame::specs::Command::frame_for))]
-pub fn disable_cmd(motor_id: u16) -> Command
+pub fn disable_cmd(motor_id: u16) -> Result<Command, Refusal>
     ensures { result ≡ Spec.disable_cmd motor_id }
 {
     protocol_frame::frame_for(motor_id, motor_id as u32, encode_disable_cmd())
 }
 
 #[tactic(auto, unfolding(crate::specs::Request::special))]
-pub fn set_zero_cmd(motor_id: u16) -> Command
+pub fn set_zero_cmd(motor_id: u16) -> Result<Command, Refusal>
     ensures { result ≡ Spec.set_zero_cmd motor_id }
 {
     protocol_frame::frame_for(motor_id, motor_id as u32, SET_ZERO)
 }
 
 #[tactic(auto, unfolding(crate::specs::Request::special))]
-pub fn clear_error_cmd(motor_id: u16) -> Command
+pub fn clear_error_cmd(motor_id: u16) -> Result<Command, Refusal>
     ensures { result ≡ Spec.clear_error_cmd motor_id }
 {
     protocol_frame::frame_for(motor_id, motor_id as u32, CLEAR_ERROR)

@@ -9,24 +9,26 @@ use lib.Dec.{T, lit<, lit≤}
 use lib.Ieee.{Float, binary32, neg, mul, le, of_int}
 use lib.Ieee.Exact.{HasValue}
 use lib.Ieee.Back.{round_whole}
+use Rattle.std.specs.Prelude.{Ok}
 use Rattle.float.specs.Float.{clip}
 use Rattle.float.proofs.AtMost.{clip_at_most, mul_at_most, cut_at_most}
 use Rattle.motor_core.specs.Model.{limit_accepted, limits_of}
 use Rattle.motor_core.specs.declared.model.PvTLimits.{PvTLimits}
-use Rattle.motor_core.specs.declared.model.LimitCheck.TheVariants.{Accepted}
+use Rattle.motor_core.specs.declared.model.Maxima.{Maxima}
 use Rattle.motor_core.proofs.Limits.{accepted_limits}
 use Rattle.float.specs.Arithmetic.{float}
 use Rattle.protocol_codes.specs.Codes.{float_to_uint}
 use Rattle.protocol_codes.proofs.Range.{range, of_int_is}
 use Rattle.protocol_setpoint.specs.Setpoint.{scaled}
+use Rattle.protocol_setpoint.specs.declared.MitSetpoint.{MitSetpoint}
 
 -- ---- MIT
-pub record CodesFit (l : PvTLimits) (x y kp kd z : Float) : Type 0 where
-  pub position : float_to_uint 16 x l.p_min l.p_max < 2 ^ 16
-  pub velocity : float_to_uint 12 y l.v_min l.v_max < 2 ^ 12
-  pub stiffness : float_to_uint 12 kp (float 0) (float 500) < 2 ^ 12
-  pub damping : float_to_uint 12 kd (float 0) (float 5) < 2 ^ 12
-  pub torque : float_to_uint 12 z l.t_min l.t_max < 2 ^ 12
+pub record CodesFit (l : PvTLimits) (s : MitSetpoint) : Type 0 where
+  pub position : float_to_uint 16 s.target_position l.p_min l.p_max < 2 ^ 16
+  pub velocity : float_to_uint 12 s.target_velocity l.v_min l.v_max < 2 ^ 12
+  pub stiffness : float_to_uint 12 s.stiffness (float 0) (float 500) < 2 ^ 12
+  pub damping : float_to_uint 12 s.damping (float 0) (float 5) < 2 ^ 12
+  pub torque : float_to_uint 12 s.feedforward_torque l.t_min l.t_max < 2 ^ 12
 
 from_zero : (x : Float) (max : ℕ) → T (limit_accepted (float max)) → float_to_uint 12 x (float 0) (float max) < 2 ^ 12
 from_zero x max t = range 12 (lit< tt) (lit≤ tt) x (float 0) (float max) (t, inr refl)
@@ -39,16 +41,16 @@ kd_taken : T (limit_accepted (float 5))
 unfolding limit_accepted le of_int
 kd_taken = tt
 
-pub mit_codes_fit : (p v t : Float) (l : PvTLimits) → limits_of p v t ≡ Accepted l → (x y kp kd z : Float) → CodesFit l x y kp kd z
-mit_codes_fit p v t l e x y kp kd z =
-    let a = accepted_limits p v t l e in
-    subst (λ (m : PvTLimits). CodesFit m x y kp kd z) a.made
+pub mit_codes_fit : (m : Maxima) (l : PvTLimits) → limits_of m ≡ Ok l → (s : MitSetpoint) → CodesFit l s
+mit_codes_fit m l e s =
+    let a = accepted_limits m l e in
+    subst (λ (k : PvTLimits). CodesFit k s) a.made
     (record {
-      position = range 16 (lit< tt) (lit≤ tt) x (neg p) p (a.position, inl refl);
-      velocity = range 12 (lit< tt) (lit≤ tt) y (neg v) v (a.velocity, inl refl);
-      stiffness = from_zero kp 500 kp_taken;
-      damping = from_zero kd 5 kd_taken;
-      torque = range 12 (lit< tt) (lit≤ tt) z (neg t) t (a.torque, inl refl);
+      position = range 16 (lit< tt) (lit≤ tt) s.target_position (neg m.p_max) m.p_max (a.position, inl refl);
+      velocity = range 12 (lit< tt) (lit≤ tt) s.target_velocity (neg m.v_max) m.v_max (a.velocity, inl refl);
+      stiffness = from_zero s.stiffness 500 kp_taken;
+      damping = from_zero s.damping 5 kd_taken;
+      torque = range 12 (lit< tt) (lit≤ tt) s.feedforward_torque (neg m.t_max) m.t_max (a.torque, inl refl);
     })
 
 -- ---- force-position: clipped to 0..most, times scale

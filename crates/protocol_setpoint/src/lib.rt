@@ -7,9 +7,20 @@ ghost use Rattle.protocol_codes.specs.Codes.{bits_in, float_to_uint};
 ghost use Rattle.protocol_setpoint.specs.Setpoint as Spec;
 
 use float::F32Bits;
-use motor_core::model::{LimitCheck, PvTLimits};
+use motor_core::error::Refusal;
+use motor_core::model::{Maxima, PvTLimits, from_maxima};
 use protocol_codes::{Width, full_scale};
 use protocol_frame::Command;
+
+// The targets and gains of an MIT frame.
+#[derive(Clone, Copy)]
+pub struct MitSetpoint {
+    pub target_position: f32,
+    pub target_velocity: f32,
+    pub stiffness: f32,
+    pub damping: f32,
+    pub feedforward_torque: f32,
+}
 
 const KP_MAX: f32 = 500.0;
 
@@ -37,23 +48,16 @@ fn mit_fields(pos: u32, vel: u32, kp: u32, kd: u32, torq: u32) -> u64
 
 // Any six limits: a session's and those of `mit_cmd` come from `from_maxima`, and the definition holds
 // for others too.
-pub fn encode_mit_cmd(
-    target_position: f32,
-    target_velocity: f32,
-    stiffness: f32,
-    damping: f32,
-    feedforward_torque: f32,
-    limits: PvTLimits,
-) -> u64
-    ensures { result ≡ Spec.mit_data limits target_position target_velocity stiffness damping feedforward_torque }
+pub fn encode_mit_cmd(setpoint: MitSetpoint, limits: PvTLimits) -> u64
+    ensures { result ≡ Spec.mit_data limits setpoint }
 {
     mit_fields(
-        float_to_uint(target_position, limits.p_min, limits.p_max, Width::Sixteen),
-        float_to_uint(target_velocity, limits.v_min, limits.v_max, Width::Twelve),
-        float_to_uint(stiffness, 0.0, KP_MAX, Width::Twelve),
-        float_to_uint(damping, 0.0, KD_MAX, Width::Twelve),
+        float_to_uint(setpoint.target_position, limits.p_min, limits.p_max, Width::Sixteen),
+        float_to_uint(setpoint.target_velocity, limits.v_min, limits.v_max, Width::Twelve),
+        float_to_uint(setpoint.stiffness, 0.0, KP_MAX, Width::Twelve),
+        float_to_uint(setpoint.damping, 0.0, KD_MAX, Width::Twelve),
         float_to_uint(
-            feedforward_torque,
+            setpoint.feedforward_torque,
             limits.t_min,
             limits.t_max,
             Width::Twelve,
@@ -102,33 +106,13 @@ pub fn encode_force_pos_cmd(
 #[tactic(auto, unfolding(crate::specs::Setpoint::mit_cmd))]
 pub fn mit_cmd(
     motor_id: u16,
-    p_max: f32,
-    v_max: f32,
-    t_max: f32,
-    target_position: f32,
-    target_velocity: f32,
-    stiffness: f32,
-    damping: f32,
-    feedforward_torque: f32,
-) -> Command
-    ensures { result ≡ Spec.mit_cmd motor_id p_max v_max t_max target_position target_velocity stiffness damping feedforward_torque }
+    maxima: Maxima,
+    setpoint: MitSetpoint,
+) -> Result<Command, Refusal>
+    ensures { result ≡ Spec.mit_cmd motor_id maxima setpoint }
 {
-    let made = motor_core::model::from_maxima(p_max, v_max, t_max);
-    match made {
-        LimitCheck::Refused(n) => Command::Refused(n),
-        LimitCheck::Accepted(limits) => protocol_frame::frame_for(
-            motor_id,
-            motor_id as u32,
-            encode_mit_cmd(
-                target_position,
-                target_velocity,
-                stiffness,
-                damping,
-                feedforward_torque,
-                limits,
-            ),
-        ),
-    }
+    let limits = from_maxima(maxima)?;
+    protocol_frame::frame_for(motor_id, motor_id as u32, encode_mit_cmd(setpoint, limits))
 }
 
 // Where position-velocity, velocity and force-position setpoints go; MIT goes to the motor id itself.
@@ -151,7 +135,7 @@ pub fn force_pos_id(motor_id: u16) -> u32
 }
 
 #[tactic(auto, unfolding(protocol_frame::specs::Command::frame_for))]
-pub fn pos_vel_cmd(motor_id: u16, target_position: F32Bits, velocity_limit: F32Bits) -> Command
+pub fn pos_vel_cmd(motor_id: u16, target_position: F32Bits, velocity_limit: F32Bits) -> Result<Command, Refusal>
     ensures { result ≡ Spec.pos_vel_cmd motor_id target_position.0 velocity_limit.0 }
 {
     let data = encode_pos_vel_cmd(target_position, velocity_limit);
@@ -159,7 +143,7 @@ pub fn pos_vel_cmd(motor_id: u16, target_position: F32Bits, velocity_limit: F32B
 }
 
 #[tactic(auto, unfolding(protocol_frame::specs::Command::frame_for))]
-pub fn vel_cmd(motor_id: u16, target_velocity: F32Bits) -> Command
+pub fn vel_cmd(motor_id: u16, target_velocity: F32Bits) -> Result<Command, Refusal>
     ensures { result ≡ Spec.vel_cmd motor_id target_velocity.0 }
 {
     let data = encode_vel_cmd(target_velocity);
@@ -172,7 +156,7 @@ pub fn force_pos_cmd(
     target_position: F32Bits,
     velocity_limit: f32,
     torque_limit_ratio: f32,
-) -> Command
+) -> Result<Command, Refusal>
     ensures { result ≡ Spec.force_pos_cmd motor_id target_position.0 velocity_limit torque_limit_ratio }
 {
     let data = encode_force_pos_cmd(target_position, velocity_limit, torque_limit_ratio);

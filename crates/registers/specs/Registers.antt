@@ -1,11 +1,10 @@
--- The list of registers, as document 01 has it. Definitions only.
-use Rattle.std.specs.Prelude.{ℕ, zero, suc, ◌+◌, ◌-◌, Bool, false, ◌||◌, cond, List, [], ◌∷◌, ◌++◌, eqb}
+-- The list of registers. Definitions only.
+use Rattle.std.specs.Prelude.{ℕ, zero, suc, ◌-◌, Bool, false, ◌||◌, cond, List, [], ◌∷◌, ◌++◌, eqb, Option, Some, None}
 use Rattle.registers.specs.declared.RegisterAccess.{RegisterAccess}
 use Rattle.registers.specs.declared.RegisterAccess.TheVariants.{ReadOnly, ReadWrite}
 use Rattle.registers.specs.declared.RegisterDataType.{RegisterDataType}
 use Rattle.registers.specs.declared.RegisterDataType.TheVariants.{Float, UInt32}
 use Rattle.registers.specs.declared.RegisterInfo.{RegisterInfo}
-use Rattle.registers.specs.declared.RegisterInfo.TheVariants.{Unknown, Known}
 
 infix 30 ◌to◌
 -- n numbers from a on
@@ -22,7 +21,7 @@ unfoldable pub elem : ℕ → List ℕ → Bool
 elem x [] = false
 elem x (y ∷ ys) = eqb x y || elem x ys
 
--- 'The register answers': the 53 registers
+-- the 53 registers
 unfoldable pub registers : List ℕ
 unfolding ◌to◌
 registers = (0 to 36) ++ (50 to 56) ++ (59 to 65) ++ (80 to 81)
@@ -49,11 +48,6 @@ unfoldable pub data_type_of : ℕ → RegisterDataType
 unfolding elem whole_number
 data_type_of rid = cond (elem rid whole_number) UInt32 Float
 
-unfoldable pub info_of : ℕ → RegisterInfo
+unfoldable pub info_of : ℕ → Option RegisterInfo
 unfolding known access_of data_type_of
-info_of rid = cond (known rid) (Known (access_of rid) (data_type_of rid)) Unknown
-
--- the same as a number, for a table: 0 unknown, else 1, with 1 more if writable and 2 more if of the whole-number type
-unfoldable pub code_of : ℕ → ℕ
-unfolding known elem writable whole_number
-code_of rid = cond (known rid) (1 + cond (elem rid writable) 1 0 + cond (elem rid whole_number) 2 0) 0
+info_of rid = cond (known rid) (Some (record { access = access_of rid; data_type = data_type_of rid })) None

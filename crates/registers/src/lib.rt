@@ -3,7 +3,7 @@
 #![tactic(auto)]
 
 ghost use Rattle.std.specs.Prelude.{◌≡◌};
-ghost use Rattle.registers.specs.Registers.{code_of, info_of, known};
+ghost use Rattle.registers.specs.Registers.{info_of, known};
 ghost use Rattle.registers.specs.Value.{value_of, bits_of, type_of, is_u32, of_type, same_value};
 
 use float::F32Bits;
@@ -21,73 +21,82 @@ pub enum RegisterDataType {
 }
 
 #[derive(Clone, Copy)]
-pub enum RegisterInfo {
-    Unknown,
-    Known(RegisterAccess, RegisterDataType),
+pub struct RegisterInfo {
+    pub access: RegisterAccess,
+    pub data_type: RegisterDataType,
 }
 
-// A place for each register number, in rows of eight with the first one's number beside them: 0 if it
-// is unknown, else 1, with 1 more if it is writable and 2 more if it holds a whole number.
-const REGISTER_CODES: [[u8; 8]; 32] = [
-    [2, 2, 2, 2, 2, 2, 2, 4], // 0
-    [4, 4, 4, 1, 1, 3, 3, 3], // 8
-    [3, 1, 1, 1, 1, 2, 2, 2], // 16
-    [2, 2, 2, 2, 2, 2, 2, 2], // 24
-    [2, 2, 2, 4, 3, 0, 0, 0], // 32
-    [0, 0, 0, 0, 0, 0, 0, 0], // 40
-    [0, 0, 1, 1, 1, 1, 1, 1], // 48
-    [1, 0, 0, 1, 1, 1, 1, 1], // 56
-    [1, 1, 0, 0, 0, 0, 0, 0], // 64
-    [0, 0, 0, 0, 0, 0, 0, 0], // 72
-    [1, 1, 0, 0, 0, 0, 0, 0], // 80
-    [0, 0, 0, 0, 0, 0, 0, 0], // 88
-    [0, 0, 0, 0, 0, 0, 0, 0], // 96
-    [0, 0, 0, 0, 0, 0, 0, 0], // 104
-    [0, 0, 0, 0, 0, 0, 0, 0], // 112
-    [0, 0, 0, 0, 0, 0, 0, 0], // 120
-    [0, 0, 0, 0, 0, 0, 0, 0], // 128
-    [0, 0, 0, 0, 0, 0, 0, 0], // 136
-    [0, 0, 0, 0, 0, 0, 0, 0], // 144
-    [0, 0, 0, 0, 0, 0, 0, 0], // 152
-    [0, 0, 0, 0, 0, 0, 0, 0], // 160
-    [0, 0, 0, 0, 0, 0, 0, 0], // 168
-    [0, 0, 0, 0, 0, 0, 0, 0], // 176
-    [0, 0, 0, 0, 0, 0, 0, 0], // 184
-    [0, 0, 0, 0, 0, 0, 0, 0], // 192
-    [0, 0, 0, 0, 0, 0, 0, 0], // 200
-    [0, 0, 0, 0, 0, 0, 0, 0], // 208
-    [0, 0, 0, 0, 0, 0, 0, 0], // 216
-    [0, 0, 0, 0, 0, 0, 0, 0], // 224
-    [0, 0, 0, 0, 0, 0, 0, 0], // 232
-    [0, 0, 0, 0, 0, 0, 0, 0], // 240
-    [0, 0, 0, 0, 0, 0, 0, 0], // 248
+// The four kinds of registers, and none: `R` can only be read, `W` can be written too, `F` holds a float
+// and `U` a whole number.
+const NO: Option<RegisterInfo> = None;
+
+const RF: Option<RegisterInfo> = Some(RegisterInfo {
+    access: RegisterAccess::ReadOnly,
+    data_type: RegisterDataType::Float,
+});
+
+const WF: Option<RegisterInfo> = Some(RegisterInfo {
+    access: RegisterAccess::ReadWrite,
+    data_type: RegisterDataType::Float,
+});
+
+const RU: Option<RegisterInfo> = Some(RegisterInfo {
+    access: RegisterAccess::ReadOnly,
+    data_type: RegisterDataType::UInt32,
+});
+
+const WU: Option<RegisterInfo> = Some(RegisterInfo {
+    access: RegisterAccess::ReadWrite,
+    data_type: RegisterDataType::UInt32,
+});
+
+// A place for each register number, in rows of eight with the first one's number beside them.
+const REGISTERS: [[Option<RegisterInfo>; 8]; 32] = [
+    [WF, WF, WF, WF, WF, WF, WF, WU], // 0
+    [WU, WU, WU, RF, RF, RU, RU, RU], // 8
+    [RU, RF, RF, RF, RF, WF, WF, WF], // 16
+    [WF, WF, WF, WF, WF, WF, WF, WF], // 24
+    [WF, WF, WF, WU, RU, NO, NO, NO], // 32
+    [NO, NO, NO, NO, NO, NO, NO, NO], // 40
+    [NO, NO, RF, RF, RF, RF, RF, RF], // 48
+    [RF, NO, NO, RF, RF, RF, RF, RF], // 56
+    [RF, RF, NO, NO, NO, NO, NO, NO], // 64
+    [NO, NO, NO, NO, NO, NO, NO, NO], // 72
+    [RF, RF, NO, NO, NO, NO, NO, NO], // 80
+    [NO, NO, NO, NO, NO, NO, NO, NO], // 88
+    [NO, NO, NO, NO, NO, NO, NO, NO], // 96
+    [NO, NO, NO, NO, NO, NO, NO, NO], // 104
+    [NO, NO, NO, NO, NO, NO, NO, NO], // 112
+    [NO, NO, NO, NO, NO, NO, NO, NO], // 120
+    [NO, NO, NO, NO, NO, NO, NO, NO], // 128
+    [NO, NO, NO, NO, NO, NO, NO, NO], // 136
+    [NO, NO, NO, NO, NO, NO, NO, NO], // 144
+    [NO, NO, NO, NO, NO, NO, NO, NO], // 152
+    [NO, NO, NO, NO, NO, NO, NO, NO], // 160
+    [NO, NO, NO, NO, NO, NO, NO, NO], // 168
+    [NO, NO, NO, NO, NO, NO, NO, NO], // 176
+    [NO, NO, NO, NO, NO, NO, NO, NO], // 184
+    [NO, NO, NO, NO, NO, NO, NO, NO], // 192
+    [NO, NO, NO, NO, NO, NO, NO, NO], // 200
+    [NO, NO, NO, NO, NO, NO, NO, NO], // 208
+    [NO, NO, NO, NO, NO, NO, NO, NO], // 216
+    [NO, NO, NO, NO, NO, NO, NO, NO], // 224
+    [NO, NO, NO, NO, NO, NO, NO, NO], // 232
+    [NO, NO, NO, NO, NO, NO, NO, NO], // 240
+    [NO, NO, NO, NO, NO, NO, NO, NO], // 248
 ];
 
-fn register_code(rid: u8) -> u8
-    ensures { result ≡ code_of rid }
-{
-    REGISTER_CODES[(rid / 8) as usize][(rid % 8) as usize]
-}
-
-#[tactic(auto, using(crate::proofs::Codes::info_by_code))]
-pub fn register_info(rid: u8) -> RegisterInfo
+pub fn register_info(rid: u8) -> Option<RegisterInfo>
     ensures { result ≡ info_of rid }
 {
-    let code = register_code(rid);
-    match code {
-        1 => RegisterInfo::Known(RegisterAccess::ReadOnly, RegisterDataType::Float),
-        2 => RegisterInfo::Known(RegisterAccess::ReadWrite, RegisterDataType::Float),
-        3 => RegisterInfo::Known(RegisterAccess::ReadOnly, RegisterDataType::UInt32),
-        4 => RegisterInfo::Known(RegisterAccess::ReadWrite, RegisterDataType::UInt32),
-        _ => RegisterInfo::Unknown,
-    }
+    REGISTERS[(rid / 8) as usize][(rid % 8) as usize]
 }
 
-#[tactic(auto, using(crate::proofs::Codes::known_by_code))]
+#[tactic(auto, unfolding(crate::specs::Registers::info_of))]
 pub fn is_known(rid: u8) -> bool
     ensures { result ≡ known rid }
 {
-    register_code(rid) != 0
+    register_info(rid).is_some()
 }
 
 // What a register holds. A NaN is kept as its 32 bits, since the language's f32 has one NaN only.
@@ -120,10 +129,7 @@ pub fn value_bits(value: RegisterValue) -> u32
     ensures { result ≡ bits_of value }
 {
     match value {
-        RegisterValue::Float(x) => {
-            let b = float::to_bits(x);
-            b.0
-        }
+        RegisterValue::Float(x) => float::to_bits(x).0,
         RegisterValue::Nan(b) => b.0,
         RegisterValue::UInt32(n) => n,
     }
@@ -133,11 +139,7 @@ pub fn value_bits(value: RegisterValue) -> u32
 pub fn holds_u32(value: RegisterValue) -> bool
     ensures { result ≡ is_u32 (type_of value) }
 {
-    match value {
-        RegisterValue::UInt32(_) => true,
-        RegisterValue::Float(_) => false,
-        RegisterValue::Nan(_) => false,
-    }
+    matches!(value, RegisterValue::UInt32(_))
 }
 
 // Whether a value is of that type.

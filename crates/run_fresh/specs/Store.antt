@@ -1,23 +1,21 @@
--- Storing: document 01's 'The runs', its last rule. Definitions only.
-use Rattle.std.specs.Prelude.{cond, eqb}
+-- Storing. Definitions only.
+use Rattle.std.specs.Prelude.{cond, eqb, Option, Some, None, Ok, Err}
+use Rattle.motor_core.specs.Outcome.{and_then}
 use Rattle.time.specs.Time.{millis}
 use Rattle.time.specs.declared.Duration.{Duration}
-use Rattle.state_feedback.specs.declared.Latest.{Latest}
+use Rattle.state_feedback.specs.declared.FeedbackSnapshot.{FeedbackSnapshot}
 use Rattle.state_feedback.specs.declared.MotorFeedbackState.{MotorFeedbackState}
 use Rattle.run_want.specs.Want.{send_outcome}
 use Rattle.run_want.specs.declared.Answer.{Answer}
-use Rattle.run_want.specs.declared.SendOutcome.{SendOutcome}
-use Rattle.run_want.specs.declared.SendOutcome.TheVariants as SendOutcome
+use Rattle.run_want.specs.Step.{Stepped, goes, ends}
+use Rattle.run_want.specs.declared.step.Step.TheVariants.{Goes, Ends}
 use Rattle.run_want.specs.declared.Want.{Want}
 use Rattle.run_want.specs.declared.Want.TheVariants.{Send, Sleep}
 use Rattle.run_want.specs.declared.message.Message.TheVariants.{Disable, StoreParams}
 use Rattle.run_fresh.specs.State.{state_want, state_step}
-use Rattle.run_fresh.specs.declared.StateNext.{StateNext}
-use Rattle.run_fresh.specs.declared.StateNext.TheVariants as State
+use Rattle.run_wait.specs.declared.ask.Ask.{Ask}
 use Rattle.run_fresh.specs.declared.store.Store.{Store}
 use Rattle.run_fresh.specs.declared.store.Store.TheVariants.{Asking, Disabling, Disabled, Storing, Stored}
-use Rattle.run_fresh.specs.declared.store.StoreNext.{StoreNext}
-use Rattle.run_fresh.specs.declared.store.StoreNext.TheVariants.{Goes, Done, Failed}
 
 abbrev pub state_timeout : Duration
 state_timeout = millis 50
@@ -35,21 +33,16 @@ abbrev pub by_status : MotorFeedbackState → Store
 by_status state = cond (eqb state.status_code 0) Storing Disabling
 
 -- no state, or a request that failed, is followed by a disable
-abbrev pub store_asked : StateNext → Store
-store_asked (State.Goes ask) = Asking ask
-store_asked (State.Got state) = by_status state
-store_asked State.NoState = Disabling
-store_asked (State.Failed failure) = Disabling
+abbrev pub store_asked : Stepped Ask (Option MotorFeedbackState) → Store
+store_asked (Ok (Goes ask)) = Asking ask
+store_asked (Ok (Ends (Some state))) = by_status state
+store_asked (Ok (Ends None)) = Disabling
+store_asked (Err failure) = Disabling
 
--- a disable or a store frame that is not sent ends it
-abbrev pub store_sent : Store → SendOutcome → StoreNext
-store_sent after SendOutcome.Sent = Goes after
-store_sent after (SendOutcome.Failed failure) = Failed failure
-
--- `store_parameters`, looking at the latest record
-abbrev pub store_step : Latest → Store → Answer → StoreNext
-store_step latest (Asking ask) answer = Goes (store_asked (state_step state_timeout latest ask answer))
-store_step latest Disabling answer = store_sent Disabled (send_outcome answer)
-store_step latest Disabled answer = Goes Storing
-store_step latest Storing answer = store_sent Stored (send_outcome answer)
-store_step latest Stored answer = Done
+-- `store_parameters`, looking at the latest record: a disable or a store frame that is not sent ends it
+abbrev pub store_step : Option FeedbackSnapshot → Store → Answer → Stepped Store (Unit {0})
+store_step latest (Asking ask) answer = goes (store_asked (state_step state_timeout latest ask answer))
+store_step latest Disabling answer = and_then (send_outcome answer) (λ sent. goes Disabled)
+store_step latest Disabled answer = goes Storing
+store_step latest Storing answer = and_then (send_outcome answer) (λ sent. goes Stored)
+store_step latest Stored answer = ends tt

@@ -7,21 +7,14 @@ pub mod store;
 ghost use Rattle.std.specs.Prelude.{◌≡◌};
 ghost use Rattle.run_fresh.specs.State as Spec;
 
-use run_wait::Wait;
-use run_wait::ask::{Ask, Asked, ask_step, ask_want};
+use run_wait::ask::{Ask, ask_step, ask_want};
 use run_wait::look::fresh_record;
+use run_wait::{Wait, Waited};
 use run_want::message::Message;
-use run_want::{Answer, Failure, Want};
-use state_feedback::{Latest, MotorFeedbackState};
+use run_want::step::{Step, Stepped};
+use run_want::{Answer, Want};
+use state_feedback::{FeedbackSnapshot, MotorFeedbackState};
 use time::{Duration, Instant};
-
-#[derive(Clone, Copy)]
-pub enum StateNext {
-    Goes(Ask),
-    Got(MotorFeedbackState),
-    NoState,
-    Failed(Failure),
-}
 
 pub fn state_want(ask: Ask) -> Want
     ensures { result ≡ Spec.state_want ask }
@@ -29,27 +22,30 @@ pub fn state_want(ask: Ask) -> Want
     ask_want(Message::RequestFeedback, ask)
 }
 
-fn state_look(opening: Instant, latest: Latest) -> StateNext
+fn state_look(
+    opening: Instant,
+    latest: Option<FeedbackSnapshot>,
+) -> Step<Ask, Option<MotorFeedbackState>>
     ensures { result ≡ Spec.state_look opening latest }
 {
-    let fresh = fresh_record(opening, latest);
-    match fresh {
-        Latest::None => StateNext::Goes(Ask::Waiting(Wait::Checking(opening))),
-        Latest::Snapshot(snapshot) => {
-            let state = snapshot.state;
-            StateNext::Got(state)
-        }
+    match fresh_record(opening, latest) {
+        None => Step::Goes(Ask::Waiting(Wait::Checking(opening))),
+        Some(snapshot) => Step::Ends(Some(snapshot.state)),
     }
 }
 
-pub fn state_step(timeout: Duration, latest: Latest, ask: Ask, answer: Answer) -> StateNext
+// Past the deadline there is no state, which is no failure.
+pub fn state_step(
+    timeout: Duration,
+    latest: Option<FeedbackSnapshot>,
+    ask: Ask,
+    answer: Answer,
+) -> Stepped<Ask, Option<MotorFeedbackState>>
     ensures { result ≡ Spec.state_step timeout latest ask answer }
 {
-    let asked = ask_step(timeout, ask, answer);
-    match asked {
-        Asked::Goes(next) => StateNext::Goes(next),
-        Asked::Looks(opening) => state_look(opening, latest),
-        Asked::Late => StateNext::NoState,
-        Asked::Failed(failure) => StateNext::Failed(failure),
+    match ask_step(timeout, ask, answer)? {
+        Waited::Goes(next) => Ok(Step::Goes(next)),
+        Waited::Looks(opening) => Ok(state_look(opening, latest)),
+        Waited::Late => Ok(Step::Ends(None)),
     }
 }

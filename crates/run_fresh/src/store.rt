@@ -2,11 +2,12 @@
 ghost use Rattle.std.specs.Prelude.{◌≡◌};
 ghost use Rattle.run_fresh.specs.Store as Spec;
 
-use crate::{StateNext, state_step, state_want};
+use crate::{state_step, state_want};
 use run_wait::ask::Ask;
 use run_want::message::Message;
-use run_want::{Answer, Failure, SendOutcome, Want, send_outcome};
-use state_feedback::{Latest, MotorFeedbackState};
+use run_want::step::{Step, Stepped};
+use run_want::{Answer, Want, send_outcome};
+use state_feedback::{FeedbackSnapshot, MotorFeedbackState};
 use time::Duration;
 
 // In nanoseconds.
@@ -26,13 +27,6 @@ pub enum Store {
     Stored,
 }
 
-#[derive(Clone, Copy)]
-pub enum StoreNext {
-    Goes(Store),
-    Done,
-    Failed(Failure),
-}
-
 pub fn store_want(store: Store) -> Want
     ensures { result ≡ Spec.store_want store }
 {
@@ -45,6 +39,7 @@ pub fn store_want(store: Store) -> Want
     }
 }
 
+// A motor that says that it is disabled needs no disable.
 fn by_status(state: MotorFeedbackState) -> Store
     ensures { result ≡ Spec.by_status state }
 {
@@ -55,39 +50,40 @@ fn by_status(state: MotorFeedbackState) -> Store
 }
 
 // Whatever the request came to, storing goes on.
-fn store_asked(next: StateNext) -> Store
+fn store_asked(next: Stepped<Ask, Option<MotorFeedbackState>>) -> Store
     ensures { result ≡ Spec.store_asked next }
 {
     match next {
-        StateNext::Goes(ask) => Store::Asking(ask),
-        StateNext::Got(state) => by_status(state),
-        StateNext::NoState => Store::Disabling,
-        StateNext::Failed(_) => Store::Disabling,
+        Ok(Step::Goes(ask)) => Store::Asking(ask),
+        Ok(Step::Ends(Some(state))) => by_status(state),
+        Ok(Step::Ends(None)) => Store::Disabling,
+        Err(_) => Store::Disabling,
     }
 }
 
-fn store_sent(after: Store, sending: SendOutcome) -> StoreNext
-    ensures { result ≡ Spec.store_sent after sending }
-{
-    match sending {
-        SendOutcome::Sent => StoreNext::Goes(after),
-        SendOutcome::Failed(failure) => StoreNext::Failed(failure),
-    }
-}
-
-pub fn store_step(latest: Latest, store: Store, answer: Answer) -> StoreNext
+pub fn store_step(
+    latest: Option<FeedbackSnapshot>,
+    store: Store,
+    answer: Answer,
+) -> Stepped<Store, ()>
     ensures { result ≡ Spec.store_step latest store answer }
 {
     match store {
-        Store::Asking(ask) => StoreNext::Goes(store_asked(state_step(
+        Store::Asking(ask) => Ok(Step::Goes(store_asked(state_step(
             STORE_PARAMS_STATE_TIMEOUT,
             latest,
             ask,
             answer,
-        ))),
-        Store::Disabling => store_sent(Store::Disabled, send_outcome(answer)),
-        Store::Disabled => StoreNext::Goes(Store::Storing),
-        Store::Storing => store_sent(Store::Stored, send_outcome(answer)),
-        Store::Stored => StoreNext::Done,
+        )))),
+        Store::Disabling => {
+            send_outcome(answer)?;
+            Ok(Step::Goes(Store::Disabled))
+        }
+        Store::Disabled => Ok(Step::Goes(Store::Storing)),
+        Store::Storing => {
+            send_outcome(answer)?;
+            Ok(Step::Goes(Store::Stored))
+        }
+        Store::Stored => Ok(Step::Ends(())),
     }
 }

@@ -28,14 +28,15 @@ pub enum Machine {
     EnsureControlMode(ControlMode, Duration, Switch),
 }
 
+// What a run ends with, if it does not fail.
 #[derive(Clone, Copy)]
-pub enum RunResult {
+pub enum Outcome {
     Done,
     Value(RegisterValue),
-    State(MotorFeedbackState),
-    NoState,
-    Failed(Failure),
+    State(Option<MotorFeedbackState>),
 }
+
+pub type RunResult = Result<Outcome, Failure>;
 
 pub fn machine_want(machine: Machine) -> Want
     ensures { result ≡ Spec.machine_want machine }

@@ -1,4 +1,4 @@
--- The wait: document 01's 'The runs', look, then clock, then 2 ms of sleep. Definitions only.
+-- The wait: look, then clock, then 2 ms of sleep. Definitions only.
 use Rattle.std.specs.Prelude.{◌+◌, Bool, cond, leb}
 use Rattle.time.specs.Time.{millis}
 use Rattle.time.specs.declared.Instant.{Instant}
@@ -25,6 +25,6 @@ wait_want (Checking opening) = Clock
 wait_want (Napping opening) = Sleep poll_interval
 
 -- at the deadline the wait is over; after a sleep comes the next look
-abbrev pub wait_step : Duration → Wait → Answer → Waited
+abbrev pub wait_step : Duration → Wait → Answer → Waited Wait
 wait_step length (Checking opening) answer = cond (late opening length (reading_of answer)) Late (Goes (Napping opening))
 wait_step length (Napping opening) answer = Looks opening

@@ -5,7 +5,7 @@ ghost use Rattle.run_wait.specs.Ask as Spec;
 
 use crate::{Wait, Waited, wait_step, wait_want};
 use run_want::message::Message;
-use run_want::{Answer, Failure, SendOutcome, Want, reading_of, send_outcome};
+use run_want::{Answer, Failure, Want, reading_of, send_outcome};
 use time::{Duration, Instant};
 
 #[derive(Clone, Copy)]
@@ -13,15 +13,6 @@ pub enum Ask {
     Opening,
     Sending(Instant),
     Waiting(Wait),
-}
-
-// As `Waited`, or the send failed.
-#[derive(Clone, Copy)]
-pub enum Asked {
-    Goes(Ask),
-    Looks(Instant),
-    Late,
-    Failed(Failure),
 }
 
 pub fn ask_want(message: Message, ask: Ask) -> Want
@@ -34,31 +25,19 @@ pub fn ask_want(message: Message, ask: Ask) -> Want
     }
 }
 
-fn ask_sent(opening: Instant, sending: SendOutcome) -> Asked
-    ensures { result ≡ Spec.ask_sent opening sending }
-{
-    match sending {
-        SendOutcome::Sent => Asked::Looks(opening),
-        SendOutcome::Failed(failure) => Asked::Failed(failure),
-    }
-}
-
-fn ask_waited(waited: Waited) -> Asked
-    ensures { result ≡ Spec.ask_waited waited }
-{
-    match waited {
-        Waited::Goes(wait) => Asked::Goes(Ask::Waiting(wait)),
-        Waited::Looks(opening) => Asked::Looks(opening),
-        Waited::Late => Asked::Late,
-    }
-}
-
-pub fn ask_step(length: Duration, ask: Ask, answer: Answer) -> Asked
+pub fn ask_step(length: Duration, ask: Ask, answer: Answer) -> Result<Waited<Ask>, Failure>
     ensures { result ≡ Spec.ask_step length ask answer }
 {
     match ask {
-        Ask::Opening => Asked::Goes(Ask::Sending(reading_of(answer))),
-        Ask::Sending(opening) => ask_sent(opening, send_outcome(answer)),
-        Ask::Waiting(wait) => ask_waited(wait_step(length, wait, answer)),
+        Ask::Opening => Ok(Waited::Goes(Ask::Sending(reading_of(answer)))),
+        Ask::Sending(opening) => {
+            send_outcome(answer)?;
+            Ok(Waited::Looks(opening))
+        }
+        Ask::Waiting(wait) => match wait_step(length, wait, answer) {
+            Waited::Goes(next) => Ok(Waited::Goes(Ask::Waiting(next))),
+            Waited::Looks(opening) => Ok(Waited::Looks(opening)),
+            Waited::Late => Ok(Waited::Late),
+        },
     }
 }

@@ -23,8 +23,8 @@ pub enum Wait {
 
 // The wait goes on, or it is time for a look at what came since the opening, or the deadline is past.
 #[derive(Clone, Copy)]
-pub enum Waited {
-    Goes(Wait),
+pub enum Waited<S> {
+    Goes(S),
     Looks(Instant),
     Late,
 }
@@ -33,7 +33,7 @@ pub enum Waited {
 fn is_late(opening: Instant, length: Duration, now: Instant) -> bool
     ensures { result ≡ Spec.late opening length now }
 {
-    opening.0 <= now.0 && length.0 <= now.0 - opening.0
+    opening <= now && length.0 <= now.0 - opening.0
 }
 
 pub fn wait_want(wait: Wait) -> Want
@@ -45,7 +45,7 @@ pub fn wait_want(wait: Wait) -> Want
     }
 }
 
-pub fn wait_step(length: Duration, wait: Wait, answer: Answer) -> Waited
+pub fn wait_step(length: Duration, wait: Wait, answer: Answer) -> Waited<Wait>
     ensures { result ≡ Spec.wait_step length wait answer }
 {
     match wait {

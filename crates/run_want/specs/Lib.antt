@@ -1,2 +1,3 @@
 pub mod Message
+pub mod Step
 pub mod Want

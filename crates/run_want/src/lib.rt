@@ -1,8 +1,9 @@
 // What a run wants, one thing at a time: a reading of the clock, a message sent, a sleep; and how it is
-// answered. Why a run fails, and the frame of each message.
+// answered. Why a run fails, where its steps lead, and the frame of each message.
 #![tactic(auto)]
 
 pub mod message;
+pub mod step;
 
 ghost use Rattle.std.specs.Prelude.{◌≡◌};
 ghost use Rattle.run_want.specs.Want as Spec;
@@ -21,14 +22,13 @@ pub enum Want {
 #[derive(Clone, Copy)]
 pub enum Answer {
     Reading(Instant),
-    Send(SendResult),
+    Send(Result<(), SendError>),
     Slept,
 }
 
-// How a send went: sent, failed as a timeout, or failed otherwise.
+// How a send fails: as a timeout, or otherwise.
 #[derive(Clone, Copy)]
-pub enum SendResult {
-    Sent,
+pub enum SendError {
     Timeout,
     Failed,
 }
@@ -42,31 +42,14 @@ pub enum Failure {
     SendFailed,
 }
 
-// What a send means to a run: it went, or the run fails so.
-#[derive(Clone, Copy)]
-pub enum SendOutcome {
-    Sent,
-    Failed(Failure),
-}
+impl From<SendError> for Failure {
+    ghost from_gives = { λ error failure. failure ≡ Spec.failure_of error };
 
-// The kinds of wants and answers: 0 the clock, 1 a send, 2 a sleep.
-fn kind_wanted(want: Want) -> u8
-    ensures { result ≡ Spec.kind_wanted want }
-{
-    match want {
-        Want::Clock => 0,
-        Want::Send(_) => 1,
-        Want::Sleep(_) => 2,
-    }
-}
-
-fn kind_answered(answer: Answer) -> u8
-    ensures { result ≡ Spec.kind_answered answer }
-{
-    match answer {
-        Answer::Reading(_) => 0,
-        Answer::Send(_) => 1,
-        Answer::Slept => 2,
+    fn from(error: SendError) -> Failure {
+        match error {
+            SendError::Timeout => Failure::Timeout,
+            SendError::Failed => Failure::SendFailed,
+        }
     }
 }
 
@@ -74,7 +57,12 @@ fn kind_answered(answer: Answer) -> u8
 pub fn fits(want: Want, answer: Answer) -> bool
     ensures { result ≡ Spec.fits want answer }
 {
-    kind_wanted(want) == kind_answered(answer)
+    matches!(
+        (want, answer),
+        (Want::Clock, Answer::Reading(_))
+            | (Want::Send(_), Answer::Send(_))
+            | (Want::Sleep(_), Answer::Slept)
+    )
 }
 
 // The reading that answers a want of the clock.
@@ -83,28 +71,16 @@ pub fn reading_of(answer: Answer) -> Instant
 {
     match answer {
         Answer::Reading(reading) => reading,
-        Answer::Send(_) => Instant(0),
-        Answer::Slept => Instant(0),
-    }
-}
-
-fn outcome_of(res: SendResult) -> SendOutcome
-    ensures { result ≡ Spec.outcome_of res }
-{
-    match res {
-        SendResult::Sent => SendOutcome::Sent,
-        SendResult::Timeout => SendOutcome::Failed(Failure::Timeout),
-        SendResult::Failed => SendOutcome::Failed(Failure::SendFailed),
+        Answer::Send(_) | Answer::Slept => Instant(0),
     }
 }
 
 // How the wanted send went.
-pub fn send_outcome(answer: Answer) -> SendOutcome
+pub fn send_outcome(answer: Answer) -> Result<(), Failure>
     ensures { result ≡ Spec.send_outcome answer }
 {
-    match answer {
-        Answer::Reading(_) => SendOutcome::Sent,
-        Answer::Send(result) => outcome_of(result),
-        Answer::Slept => SendOutcome::Sent,
+    if let Answer::Send(sent) = answer {
+        sent?;
     }
+    Ok(())
 }

@@ -5,6 +5,7 @@ ghost use Rattle.run_write.specs.Ack as Spec;
 use registers::{RegisterValue, register_value_matches};
 use run_wait::look::fresh_entry;
 use run_wait::{Wait, Waited, wait_step, wait_want};
+use run_want::step::{Step, Stepped};
 use run_want::{Answer, Failure, Want, reading_of};
 use state_cache::Entry;
 use time::{Duration, Instant};
@@ -18,13 +19,6 @@ pub enum AckWait {
     Waiting(Wait),
 }
 
-#[derive(Clone, Copy)]
-pub enum AckNext {
-    Goes(AckWait),
-    Acked,
-    Failed(Failure),
-}
-
 pub(crate) fn ack_want(ack: AckWait) -> Want
     ensures { result ≡ Spec.ack_want ack }
 {
@@ -34,44 +28,30 @@ pub(crate) fn ack_want(ack: AckWait) -> Want
     }
 }
 
-fn compared(value: RegisterValue, got: RegisterValue) -> AckNext
-    ensures { result ≡ Spec.compared value got }
-{
-    if register_value_matches(got, value) {
-        return AckNext::Acked;
-    }
-    AckNext::Failed(Failure::Mismatch(got))
-}
-
-fn ack_look(opening: Instant, value: RegisterValue, entry: Entry) -> AckNext
+fn ack_look(opening: Instant, value: RegisterValue, entry: Entry) -> Stepped<AckWait, ()>
     ensures { result ≡ Spec.ack_look opening value entry }
 {
-    let fresh = fresh_entry(opening, entry);
-    match fresh {
-        Entry::Empty => AckNext::Goes(AckWait::Waiting(Wait::Checking(opening))),
-        Entry::Held(got, _) => compared(value, got),
+    match fresh_entry(opening, entry) {
+        Entry::Empty => Ok(Step::Goes(AckWait::Waiting(Wait::Checking(opening)))),
+        Entry::Held(got, _) if register_value_matches(got, value) => Ok(Step::Ends(())),
+        Entry::Held(got, _) => Err(Failure::Mismatch(got)),
     }
 }
 
-fn ack_waited(value: RegisterValue, entry: Entry, waited: Waited) -> AckNext
-    ensures { result ≡ Spec.ack_waited value entry waited }
-{
-    match waited {
-        Waited::Goes(wait) => AckNext::Goes(AckWait::Waiting(wait)),
-        Waited::Looks(opening) => ack_look(opening, value, entry),
-        Waited::Late => AckNext::Failed(Failure::Timeout),
-    }
-}
-
-pub(crate) fn ack_step(value: RegisterValue, entry: Entry, ack: AckWait, answer: Answer) -> AckNext
+pub(crate) fn ack_step(
+    value: RegisterValue,
+    entry: Entry,
+    ack: AckWait,
+    answer: Answer,
+) -> Stepped<AckWait, ()>
     ensures { result ≡ Spec.ack_step value entry ack answer }
 {
     match ack {
         AckWait::Opening => ack_look(reading_of(answer), value, entry),
-        AckWait::Waiting(wait) => ack_waited(
-            value,
-            entry,
-            wait_step(WRITE_REGISTER_ACK_TIMEOUT, wait, answer),
-        ),
+        AckWait::Waiting(wait) => match wait_step(WRITE_REGISTER_ACK_TIMEOUT, wait, answer) {
+            Waited::Goes(next) => Ok(Step::Goes(AckWait::Waiting(next))),
+            Waited::Looks(opening) => ack_look(opening, value, entry),
+            Waited::Late => Err(Failure::Timeout),
+        },
     }
 }

@@ -7,10 +7,11 @@ pub mod ack;
 ghost use Rattle.std.specs.Prelude.{◌≡◌};
 ghost use Rattle.run_write.specs.Write as Spec;
 
-use ack::{AckNext, AckWait, ack_step, ack_want};
+use ack::{AckWait, ack_step, ack_want};
 use registers::{RegisterValue, value_bits};
 use run_want::message::Message;
-use run_want::{Answer, Failure, SendOutcome, Want, send_outcome};
+use run_want::step::{Step, Stepped};
+use run_want::{Answer, Failure, Want, send_outcome};
 use state_cache::Entry;
 use time::Duration;
 
@@ -25,13 +26,6 @@ pub enum Write {
     Sending(u8),
     Waiting(u8, AckWait),
     Gap(u8),
-}
-
-#[derive(Clone, Copy)]
-pub enum WriteNext {
-    Goes(Write),
-    Written,
-    Failed(Failure),
 }
 
 pub fn first_try() -> Write
@@ -50,45 +44,44 @@ pub fn write_want(rid: u8, value: RegisterValue, write: Write) -> Want
     }
 }
 
-fn write_sent(tries_left: u8, sending: SendOutcome) -> WriteNext
-    ensures { result ≡ Spec.write_sent tries_left sending }
-{
-    match sending {
-        SendOutcome::Sent => WriteNext::Goes(Write::Waiting(tries_left, AckWait::Opening)),
-        SendOutcome::Failed(failure) => WriteNext::Failed(failure),
-    }
-}
-
 // The next try, or the last one's failure.
-fn again(tries_left: u8, failure: Failure) -> WriteNext
+fn again(tries_left: u8, failure: Failure) -> Stepped<Write, ()>
     ensures { result ≡ Spec.again tries_left failure }
 {
     if tries_left == 0 {
-        return WriteNext::Failed(failure);
+        return Err(failure);
     }
-    WriteNext::Goes(Write::Gap(tries_left - 1))
+    Ok(Step::Goes(Write::Gap(tries_left - 1)))
 }
 
-fn write_waited(tries_left: u8, ack: AckNext) -> WriteNext
+fn write_waited(tries_left: u8, ack: Stepped<AckWait, ()>) -> Stepped<Write, ()>
     ensures { result ≡ Spec.write_waited tries_left ack }
 {
     match ack {
-        AckNext::Goes(next) => WriteNext::Goes(Write::Waiting(tries_left, next)),
-        AckNext::Acked => WriteNext::Written,
-        AckNext::Failed(failure) => again(tries_left, failure),
+        Ok(Step::Goes(next)) => Ok(Step::Goes(Write::Waiting(tries_left, next))),
+        Ok(Step::Ends(())) => Ok(Step::Ends(())),
+        Err(failure) => again(tries_left, failure),
     }
 }
 
-// `entry` is what the cache holds of the register's acks.
-pub fn write_step(value: RegisterValue, entry: Entry, write: Write, answer: Answer) -> WriteNext
+// `entry` is what the cache holds of the register's acks. A send that fails is not tried again.
+pub fn write_step(
+    value: RegisterValue,
+    entry: Entry,
+    write: Write,
+    answer: Answer,
+) -> Stepped<Write, ()>
     ensures { result ≡ Spec.write_step value entry write answer }
 {
     match write {
-        Write::Sending(tries_left) => write_sent(tries_left, send_outcome(answer)),
+        Write::Sending(tries_left) => {
+            send_outcome(answer)?;
+            Ok(Step::Goes(Write::Waiting(tries_left, AckWait::Opening)))
+        }
         Write::Waiting(tries_left, ack) => write_waited(
             tries_left,
             ack_step(value, entry, ack, answer),
         ),
-        Write::Gap(tries_left) => WriteNext::Goes(Write::Sending(tries_left)),
+        Write::Gap(tries_left) => Ok(Step::Goes(Write::Sending(tries_left))),
     }
 }

@@ -1,11 +1,11 @@
-// What the motor last said of a register, in a reply or in an ack: an entry with its stamp, the slot
-// that holds it, and where a run looks for it.
+// What the motor last said of a register, in a reply or in an ack: an entry with its stamp, and where
+// a run looks for it.
 #![tactic(auto)]
 
 ghost use Rattle.std.specs.Prelude.{◌≡◌};
 ghost use Rattle.state_cache.specs.Cache as Spec;
 
-use motor_core::error::REGISTER;
+use motor_core::error::Refusal;
 use registers::RegisterValue;
 use time::Instant;
 
@@ -15,23 +15,12 @@ pub enum Entry {
     Held(RegisterValue, Instant),
 }
 
-#[derive(Clone, Copy)]
-pub struct Slot {
-    pub entry: Entry,
-}
-
 // The one slot that a run looks at: a register's among the replies, or among the acks.
 #[derive(Clone, Copy)]
 pub enum Place {
     Nowhere,
     Reply(u8),
     Ack(u8),
-}
-
-#[derive(Clone, Copy)]
-pub enum Cached {
-    Entry(Entry),
-    Refused(u8),
 }
 
 // Where a register's slot stands; for a number from 82 on, which has none, 0. The test is there for the
@@ -45,13 +34,11 @@ pub fn slot_place(rid: u8) -> usize
 
 // A register's entry among a session's replies, or among its acks.
 #[tactic(auto, using(registers::proofs::Below::known_below))]
-pub fn cached_entry(slots: [Slot; 82], rid: u8) -> Cached
+pub fn cached_entry(slots: [Entry; 82], rid: u8) -> Result<Entry, Refusal>
     ensures { result ≡ Spec.cached_entry slots rid }
 {
     if !registers::is_known(rid) {
-        return Cached::Refused(REGISTER);
+        return Err(Refusal::Register);
     }
-    let slot = slots[rid as usize];
-    let entry = slot.entry;
-    Cached::Entry(entry)
+    Ok(slots[rid as usize])
 }

@@ -1,34 +1,26 @@
 -- What a patch changes of the latest record, and what it does not reach. Assumes nothing.
 use Prim.Native.Nat.{ℕ}
 use mathlib.Core.Path.{◌≡◌, refl, ap}
+use Rattle.std.specs.Prelude.{Option, Some, None, is_some, option_map}
 use Rattle.float.specs.Arithmetic.{float}
 use Rattle.protocol_status.specs.Status.{status_name}
-use Rattle.state_feedback.specs.Feedback.{has_record, patch_snapshot, patch_by, patch_latest}
+use Rattle.state_feedback.specs.Feedback.{patch_snapshot, patched, patch_latest}
 use Rattle.state_feedback.specs.declared.FeedbackCache.{FeedbackCache}
 use Rattle.state_feedback.specs.declared.FeedbackSnapshot.{FeedbackSnapshot}
-use Rattle.state_feedback.specs.declared.Latest.{Latest}
-use Rattle.state_feedback.specs.declared.Latest.TheVariants.{None, Snapshot}
 
 module _ (cache : FeedbackCache) (status mos rotor : ℕ) where
-  pub patch_answer : (patch_latest cache status mos rotor).patched ≡ has_record cache.latest
+  pub patch_answer : is_some (patch_latest cache status mos rotor) ≡ is_some cache.latest
   patch_answer = go cache.latest
     where
-      go : (l : Latest) → (patch_by l cache status mos rotor).patched ≡ has_record l
+      go : (l : Option FeedbackSnapshot) → is_some (option_map (patched cache status mos rotor) l) ≡ is_some l
       go None = refl
-      go (Snapshot s) = refl
+      go (Some s) = refl
 
-  pub patch_sequence : (patch_latest cache status mos rotor).cache.sequence ≡ cache.sequence
-  patch_sequence = go cache.latest
-    where
-      go : (l : Latest) → (patch_by l cache status mos rotor).cache.sequence ≡ cache.sequence
-      go None = refl
-      go (Snapshot s) = refl
+  pub patch_held : (s : FeedbackSnapshot) → cache.latest ≡ Some s → patch_latest cache status mos rotor ≡ Some (patched cache status mos rotor s)
+  patch_held s e = ap (option_map (patched cache status mos rotor)) e
 
-  pub patch_held : (s : FeedbackSnapshot) → cache.latest ≡ Snapshot s → (patch_latest cache status mos rotor).cache.latest ≡ Snapshot (patch_snapshot s status mos rotor)
-  patch_held s e = ap (λ (l : Latest). (patch_by l cache status mos rotor).cache.latest) e
-
-  pub patch_nothing : cache.latest ≡ None → (patch_latest cache status mos rotor).cache ≡ cache
-  patch_nothing e = ap (λ (l : Latest). (patch_by l cache status mos rotor).cache) e
+  pub patch_nothing : cache.latest ≡ None → patch_latest cache status mos rotor ≡ None
+  patch_nothing e = ap (option_map (patched cache status mos rotor)) e
 
 -- of a record that is patched
 module _ (s : FeedbackSnapshot) (status mos rotor : ℕ) where

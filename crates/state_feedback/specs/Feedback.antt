@@ -1,23 +1,16 @@
--- The latest feedback: document 01's 'The feedback on the screen', its last rule. Definitions only.
-use Rattle.std.specs.Prelude.{ℕ, ◌+◌, ◌-◌, ◌^◌, min, Bool, true, false}
+-- The latest feedback. Definitions only.
+use Rattle.std.specs.Prelude.{ℕ, ◌+◌, ◌-◌, ◌^◌, min, Option, Some, None, option_map}
 use Rattle.time.specs.declared.Instant.{Instant}
 use Rattle.float.specs.Arithmetic.{float}
 use Rattle.protocol_status.specs.Status.{status_name}
 use Rattle.protocol_feedback.specs.declared.SensorFeedback.{SensorFeedback}
 use Rattle.state_feedback.specs.declared.MotorFeedbackState.{MotorFeedbackState}
 use Rattle.state_feedback.specs.declared.FeedbackSnapshot.{FeedbackSnapshot}
-use Rattle.state_feedback.specs.declared.Latest.{Latest}
-use Rattle.state_feedback.specs.declared.Latest.TheVariants.{None, Snapshot}
 use Rattle.state_feedback.specs.declared.FeedbackCache.{FeedbackCache}
-use Rattle.state_feedback.specs.declared.Patched.{Patched}
 
 -- no record yet, number 0
 abbrev pub no_feedback : FeedbackCache
 no_feedback = record { latest = None; sequence = 0 }
-
-abbrev pub has_record : Latest → Bool
-has_record None = false
-has_record (Snapshot s) = true
 
 -- the fields of a frame's feedback, its arbitration id, and the status by its name
 abbrev pub state_of : ℕ → SensorFeedback → MotorFeedbackState
@@ -40,7 +33,7 @@ next_number n = min (n + 1) (2 ^ 64 - 1)
 -- a feedback becomes the latest record, with the next number and its stamp
 abbrev pub update : FeedbackCache → MotorFeedbackState → Instant → FeedbackCache
 update cache state at = record {
-  latest = Snapshot (record { state = state; received_at = at; sequence = next_number cache.sequence });
+  latest = Some (record { state = state; received_at = at; sequence = next_number cache.sequence });
   sequence = next_number cache.sequence;
 }
 
@@ -61,13 +54,9 @@ patch_state s status mos rotor = record {
 abbrev pub patch_snapshot : FeedbackSnapshot → ℕ → ℕ → ℕ → FeedbackSnapshot
 patch_snapshot s status mos rotor = record { state = patch_state s.state status mos rotor; received_at = s.received_at; sequence = s.sequence }
 
--- `patch_latest`: with no record false, and nothing is done
-abbrev pub patch_by : Latest → FeedbackCache → ℕ → ℕ → ℕ → Patched
-patch_by None cache status mos rotor = record { cache = cache; patched = false }
-patch_by (Snapshot s) cache status mos rotor = record {
-  cache = record { latest = Snapshot (patch_snapshot s status mos rotor); sequence = cache.sequence };
-  patched = true;
-}
+abbrev pub patched : FeedbackCache → ℕ → ℕ → ℕ → FeedbackSnapshot → FeedbackCache
+patched cache status mos rotor s = record { latest = Some (patch_snapshot s status mos rotor); sequence = cache.sequence }
 
-abbrev pub patch_latest : FeedbackCache → ℕ → ℕ → ℕ → Patched
-patch_latest cache status mos rotor = patch_by cache.latest cache status mos rotor
+-- the latest record patched; nothing with no record
+abbrev pub patch_latest : FeedbackCache → ℕ → ℕ → ℕ → Option FeedbackCache
+patch_latest cache status mos rotor = option_map (patched cache status mos rotor) cache.latest

@@ -30,21 +30,9 @@ pub struct FeedbackSnapshot {
 }
 
 #[derive(Clone, Copy)]
-pub enum Latest {
-    None,
-    Snapshot(FeedbackSnapshot),
-}
-
-#[derive(Clone, Copy)]
 pub struct FeedbackCache {
-    pub latest: Latest,
+    pub latest: Option<FeedbackSnapshot>,
     pub sequence: u64,
-}
-
-#[derive(Clone, Copy)]
-pub struct Patched {
-    pub cache: FeedbackCache,
-    pub patched: bool,
 }
 
 // What is kept of a feedback that came under this arbitration id.
@@ -68,10 +56,7 @@ pub fn state_of(arbitration_id: u32, decoded: SensorFeedback) -> MotorFeedbackSt
 fn next_number(sequence: u64) -> u64
     ensures { result ≡ Spec.next_number sequence }
 {
-    if sequence == u64::MAX {
-        return sequence;
-    }
-    sequence + 1
+    sequence.saturating_add(1)
 }
 
 // The state becomes the latest, with the next number.
@@ -84,7 +69,7 @@ pub fn update(
 {
     let sequence = next_number(cache.sequence);
     FeedbackCache {
-        latest: Latest::Snapshot(FeedbackSnapshot {
+        latest: Some(FeedbackSnapshot {
             state,
             received_at,
             sequence,
@@ -97,43 +82,30 @@ fn patch_state(state: MotorFeedbackState, status: u8, t_mos: u8, t_rotor: u8) ->
     ensures { result ≡ Spec.patch_state state status t_mos t_rotor }
 {
     MotorFeedbackState {
-        can_id: state.can_id,
-        arbitration_id: state.arbitration_id,
         status_code: status,
         status_name: protocol_status::status_name(status),
-        pos: state.pos,
-        vel: state.vel,
-        torq: state.torq,
-        t_mos: t_mos as f32,
-        t_rotor: t_rotor as f32,
+        t_mos: f32::from(t_mos),
+        t_rotor: f32::from(t_rotor),
+        ..state
     }
 }
 
-// Sets status and temperatures of the latest; its number and stamp stay. With none it does nothing
-// and says so.
-pub fn patch_latest(cache: FeedbackCache, status: u8, t_mos: u8, t_rotor: u8) -> Patched
+// Sets status and temperatures of the latest; its number and stamp stay. Nothing where there is none.
+pub fn patch_latest(
+    cache: FeedbackCache,
+    status: u8,
+    t_mos: u8,
+    t_rotor: u8,
+) -> Option<FeedbackCache>
     ensures { result ≡ Spec.patch_latest cache status t_mos t_rotor }
 {
-    let latest = cache.latest;
-    match latest {
-        Latest::None => Patched {
-            cache,
-            patched: false,
-        },
-        Latest::Snapshot(snapshot) => {
-            let held = snapshot.state;
-            let received_at = snapshot.received_at;
-            Patched {
-                cache: FeedbackCache {
-                    latest: Latest::Snapshot(FeedbackSnapshot {
-                        state: patch_state(held, status, t_mos, t_rotor),
-                        received_at,
-                        sequence: snapshot.sequence,
-                    }),
-                    sequence: cache.sequence,
-                },
-                patched: true,
-            }
-        }
-    }
+    let snapshot = cache.latest?;
+    let patched = FeedbackSnapshot {
+        state: patch_state(snapshot.state, status, t_mos, t_rotor),
+        ..snapshot
+    };
+    Some(FeedbackCache {
+        latest: Some(patched),
+        ..cache
+    })
 }

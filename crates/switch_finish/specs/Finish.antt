@@ -1,25 +1,24 @@
 -- `finish_mode_switch`: the hold frame after a write of the mode. Definitions only.
+use Rattle.std.specs.Prelude.{Option, Some, None, Result, Ok, Err}
+use Rattle.float.specs.declared.F32Bits.{F32Bits}
 use Rattle.protocol_hold.specs.declared.ControlMode.{ControlMode}
 use Rattle.protocol_hold.specs.declared.ControlMode.TheVariants.{Mit, PosVel, Vel, ForcePos}
-use Rattle.run_want.specs.declared.SendOutcome.{SendOutcome}
-use Rattle.run_want.specs.declared.SendOutcome.TheVariants as SendOutcome
-use Rattle.switch_stage.specs.declared.HoldPosition.{HoldPosition}
-use Rattle.switch_stage.specs.declared.HoldPosition.TheVariants as Position
-use Rattle.switch_finish.specs.declared.FinishNext.{FinishNext}
-use Rattle.switch_finish.specs.declared.FinishNext.TheVariants.{Holds, Done, Failed}
+use Rattle.run_want.specs.declared.Failure.{Failure}
+use Rattle.switch_finish.specs.declared.Finishing.{Finishing}
+use Rattle.switch_finish.specs.declared.Finishing.TheVariants.{Holds, Done}
 
-abbrev pub finish_at : HoldPosition → FinishNext
-finish_at Position.None = Done
-finish_at (Position.Some position) = Holds
+abbrev pub finish_at : Option F32Bits → Finishing
+finish_at None = Done
+finish_at (Some position) = Holds
 
 -- position-velocity and force-position only with a position
-abbrev pub finish : ControlMode → HoldPosition → FinishNext
+abbrev pub finish : ControlMode → Option F32Bits → Finishing
 finish Mit position = Holds
 finish PosVel position = finish_at position
 finish Vel position = Holds
 finish ForcePos position = finish_at position
 
 -- a hold frame that is not sent ends the switch
-abbrev pub held : SendOutcome → FinishNext
-held SendOutcome.Sent = Done
-held (SendOutcome.Failed failure) = Failed failure
+abbrev pub held : Result (Unit {0}) Failure → Result Finishing Failure
+held (Ok sent) = Ok Done
+held (Err failure) = Err failure

@@ -4,46 +4,32 @@
 ghost use Rattle.std.specs.Prelude.{◌≡◌};
 ghost use Rattle.switch_finish.specs.Finish as Spec;
 
+use float::F32Bits;
 use protocol_hold::ControlMode;
-use run_want::{Failure, SendOutcome};
-use switch_stage::HoldPosition;
+use run_want::Failure;
 
-// A hold frame is wanted, or the switch goes on to verify, or fails.
+// A hold frame is wanted, or the switch goes on to verify.
 #[derive(Clone, Copy)]
-pub enum FinishNext {
+pub enum Finishing {
     Holds,
     Done,
-    Failed(Failure),
-}
-
-// Only with a position to hold.
-fn finish_at(position: HoldPosition) -> FinishNext
-    ensures { result ≡ Spec.finish_at position }
-{
-    match position {
-        HoldPosition::None => FinishNext::Done,
-        HoldPosition::Some(_) => FinishNext::Holds,
-    }
 }
 
 // The hold frame, if the mode and what is known of the position want one.
-pub fn finish(mode: ControlMode, position: HoldPosition) -> FinishNext
+pub fn finish(mode: ControlMode, position: Option<F32Bits>) -> Finishing
     ensures { result ≡ Spec.finish mode position }
 {
-    match mode {
-        ControlMode::Mit => FinishNext::Holds,
-        ControlMode::PosVel => finish_at(position),
-        ControlMode::Vel => FinishNext::Holds,
-        ControlMode::ForcePos => finish_at(position),
+    match (mode, position) {
+        (ControlMode::Mit | ControlMode::Vel, _) => Finishing::Holds,
+        (ControlMode::PosVel | ControlMode::ForcePos, Some(_)) => Finishing::Holds,
+        (ControlMode::PosVel | ControlMode::ForcePos, None) => Finishing::Done,
     }
 }
 
 // By how its send went.
-pub fn held(sending: SendOutcome) -> FinishNext
-    ensures { result ≡ Spec.held sending }
+pub fn held(sent: Result<(), Failure>) -> Result<Finishing, Failure>
+    ensures { result ≡ Spec.held sent }
 {
-    match sending {
-        SendOutcome::Sent => FinishNext::Done,
-        SendOutcome::Failed(failure) => FinishNext::Failed(failure),
-    }
+    sent?;
+    Ok(Finishing::Done)
 }

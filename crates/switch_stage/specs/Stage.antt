@@ -1,5 +1,5 @@
 -- The stages of a mode switch: what a switch keeps, what it wants and where it looks. Definitions only.
-use Rattle.float.specs.declared.F32Bits.{F32Bits}
+use Rattle.std.specs.Prelude.{unwrap_or}
 use Rattle.registers.specs.declared.RegisterValue.{RegisterValue}
 use Rattle.registers.specs.declared.RegisterValue.TheVariants as Value
 use Rattle.protocol_hold.specs.Mode.{mode_number}
@@ -12,27 +12,20 @@ use Rattle.run_want.specs.declared.message.Message.{Message}
 use Rattle.run_want.specs.declared.message.Message.TheVariants.{Setpoint}
 use Rattle.run_read.specs.Read.{read_want}
 use Rattle.run_write.specs.Write.{write_want}
-use Rattle.switch_stage.specs.declared.HoldPosition.{HoldPosition}
-use Rattle.switch_stage.specs.declared.HoldPosition.TheVariants as Position
 use Rattle.switch_stage.specs.declared.Progress.{Progress}
 use Rattle.switch_stage.specs.declared.Stage.{Stage}
 use Rattle.switch_stage.specs.declared.Stage.TheVariants.{Remaining, Reading, HoldRemaining, HoldReading, Clearing, Writing, SettleRemaining, SettleSleep, Holding}
 use Rattle.switch_stage.specs.declared.Switch.{Switch}
 use Rattle.switch_stage.specs.declared.Switch.TheVariants.{Starting, Begun}
-use Rattle.switch_stage.specs.declared.SwitchNext.{SwitchNext}
-use Rattle.switch_stage.specs.declared.SwitchNext.TheVariants.{Goes}
+use Rattle.run_want.specs.Step.{Stepped, goes as on}
 
 -- what register 10 holds in the mode
 abbrev pub mode_value : ControlMode → RegisterValue
 mode_value mode = Value.UInt32 (mode_number mode)
 
 -- with no position to hold, 0.0
-abbrev pub hold_or_zero : HoldPosition → F32Bits
-hold_or_zero Position.None = record { 0 = 0 }
-hold_or_zero (Position.Some position) = position
-
 abbrev pub hold_message : ControlMode → Progress → Message
-hold_message mode p = Setpoint mode (hold_or_zero p.hold_position)
+hold_message mode p = Setpoint mode (unwrap_or p.hold_position (record { 0 = 0 }))
 
 -- ---- what each stage wants and where it looks
 
@@ -66,5 +59,6 @@ abbrev pub switch_place : Switch → Place
 switch_place Starting = Nowhere
 switch_place (Begun p stage) = stage_place stage
 
-abbrev pub goes : Progress → Stage → SwitchNext
-goes p stage = Goes (Begun p stage)
+-- on to a stage
+abbrev pub goes : Progress → Stage → Stepped Switch (Unit {0})
+goes p stage = on (Begun p stage)

@@ -6,11 +6,12 @@ ghost use Rattle.std.specs.Prelude.{◌≡◌};
 ghost use Rattle.switch_stage.specs.Stage as Spec;
 
 use float::F32Bits;
-use protocol_hold::{ControlMode, mode_number};
+use protocol_hold::ControlMode;
 use registers::RegisterValue;
 use run_read::read_want;
 use run_wait::ask::Ask;
 use run_want::message::Message;
+use run_want::step::{Step, Stepped};
 use run_want::{Failure, Want};
 use run_write::{Write, write_want};
 use state_cache::Place;
@@ -20,18 +21,11 @@ const MODE_REGISTER: u8 = 10;
 
 const POSITION_REGISTER: u8 = 80;
 
-// Rust's `Option<f32>`, by its bits.
-#[derive(Clone, Copy)]
-pub enum HoldPosition {
-    None,
-    Some(F32Bits),
-}
-
-// What a switch keeps from its first reading on.
+// What a switch keeps from its first reading on. The position to hold is a float by its bits.
 #[derive(Clone, Copy)]
 pub struct Progress {
     pub deadline: Instant,
-    pub hold_position: HoldPosition,
+    pub hold_position: Option<F32Bits>,
     pub last_error: Failure,
 }
 
@@ -64,33 +58,17 @@ pub enum Switch {
     Begun(Progress, Stage),
 }
 
-#[derive(Clone, Copy)]
-pub enum SwitchNext {
-    Goes(Switch),
-    Done,
-    Failed(Failure),
-}
-
-fn hold_or_zero(hold: HoldPosition) -> F32Bits
-    ensures { result ≡ Spec.hold_or_zero hold }
-{
-    match hold {
-        HoldPosition::None => F32Bits(0),
-        HoldPosition::Some(position) => position,
-    }
-}
-
+// With no position to hold it is 0.0.
 fn hold_message(mode: ControlMode, progress: Progress) -> Message
     ensures { result ≡ Spec.hold_message mode progress }
 {
-    let hold = progress.hold_position;
-    Message::Setpoint(mode, hold_or_zero(hold))
+    Message::Setpoint(mode, progress.hold_position.unwrap_or(F32Bits(0)))
 }
 
 pub fn mode_value(mode: ControlMode) -> RegisterValue
     ensures { result ≡ Spec.mode_value mode }
 {
-    RegisterValue::UInt32(mode_number(mode))
+    RegisterValue::UInt32(u32::from(mode))
 }
 
 fn stage_want(mode: ControlMode, progress: Progress, stage: Stage) -> Want
@@ -122,15 +100,15 @@ fn stage_place(stage: Stage) -> Place
     ensures { result ≡ Spec.stage_place stage }
 {
     match stage {
-        Stage::Remaining(_) => Place::Nowhere,
         Stage::Reading(_, _, _) => Place::Reply(MODE_REGISTER),
-        Stage::HoldRemaining => Place::Nowhere,
         Stage::HoldReading(_, _) => Place::Reply(POSITION_REGISTER),
-        Stage::Clearing(_) => Place::Nowhere,
         Stage::Writing(_, _) => Place::Ack(MODE_REGISTER),
-        Stage::SettleRemaining(_) => Place::Nowhere,
-        Stage::SettleSleep(_, _) => Place::Nowhere,
-        Stage::Holding(_) => Place::Nowhere,
+        Stage::Remaining(_)
+        | Stage::HoldRemaining
+        | Stage::Clearing(_)
+        | Stage::SettleRemaining(_)
+        | Stage::SettleSleep(_, _)
+        | Stage::Holding(_) => Place::Nowhere,
     }
 }
 
@@ -141,4 +119,11 @@ pub fn switch_place(switch: Switch) -> Place
         Switch::Starting => Place::Nowhere,
         Switch::Begun(_, stage) => stage_place(stage),
     }
+}
+
+// On to a stage.
+pub fn goes(progress: Progress, stage: Stage) -> Stepped<Switch, ()>
+    ensures { result ≡ Spec.goes progress stage }
+{
+    Ok(Step::Goes(Switch::Begun(progress, stage)))
 }

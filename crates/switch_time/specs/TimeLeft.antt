@@ -1,11 +1,9 @@
--- The time that a switch has for its parts: document 01's 'The runs'. Definitions only.
-use Rattle.std.specs.Prelude.{ℕ, ◌+◌, ◌-◌, ◌/◌, ◌^◌, min, max, cond, leb}
+-- The time that a switch has for its parts. Definitions only.
+use Rattle.std.specs.Prelude.{ℕ, ◌+◌, ◌-◌, ◌/◌, ◌^◌, min, max, cond, leb, Option, Some, None, option_map, option_and_then}
 use Rattle.time.specs.Time.{millis}
 use Rattle.time.specs.declared.Instant.{Instant}
 use Rattle.time.specs.declared.Duration.{Duration}
 use Rattle.run_wait.specs.Wait.{poll_interval}
-use Rattle.switch_time.specs.declared.TimeLeft.{TimeLeft}
-use Rattle.switch_time.specs.declared.TimeLeft.TheVariants.{None, Some}
 
 abbrev pub shorter : Duration → Duration → Duration
 shorter a b = record { 0 = min a.0 b.0 }
@@ -29,26 +27,18 @@ abbrev pub deadline_after : Instant → Duration → Instant
 deadline_after now timeout = record { 0 = min (now.0 + timeout.0) (2 ^ 64 - 1) }
 
 -- none past the deadline; at it, 0
-abbrev pub remaining_until : Instant → Instant → TimeLeft
+abbrev pub remaining_until : Instant → Instant → Option Duration
 remaining_until deadline now = cond (leb now.0 deadline.0) (Some (record { 0 = deadline.0 - now.0 })) None
 
-abbrev pub capped : Duration → TimeLeft → TimeLeft
-capped cap None = None
-capped cap (Some left) = Some (shorter left cap)
-
-abbrev pub capped_remaining : Instant → Duration → Instant → TimeLeft
-capped_remaining deadline cap now = capped cap (remaining_until deadline now)
+abbrev pub capped_remaining : Instant → Duration → Instant → Option Duration
+capped_remaining deadline cap now = option_map (λ left. shorter left cap) (remaining_until deadline now)
 
 -- the settling sleep: 20 ms, or less so that the reserve is left, or none
 abbrev pub settle_length : Duration
 settle_length = millis 20
 
-abbrev pub beyond : Duration → Duration → TimeLeft
+abbrev pub beyond : Duration → Duration → Option Duration
 beyond left reserve = cond (leb left.0 reserve.0) None (Some (shorter settle_length (record { 0 = left.0 - reserve.0 })))
 
-abbrev pub reserving : Duration → TimeLeft → TimeLeft
-reserving reserve None = None
-reserving reserve (Some left) = beyond left reserve
-
-abbrev pub sleep_up_to_reserving : Instant → Duration → Instant → TimeLeft
-sleep_up_to_reserving deadline reserve now = reserving reserve (remaining_until deadline now)
+abbrev pub sleep_up_to_reserving : Instant → Duration → Instant → Option Duration
+sleep_up_to_reserving deadline reserve now = option_and_then (λ left. beyond left reserve) (remaining_until deadline now)

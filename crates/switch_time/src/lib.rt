@@ -15,31 +15,13 @@ const ENSURE_MODE_HOLD_POSITION_TIMEOUT: Duration = Duration(30_000_000);
 
 const ENSURE_MODE_SETTLE: Duration = Duration(20_000_000);
 
-// Rust's `Option<Duration>`.
-#[derive(Clone, Copy)]
-pub enum TimeLeft {
-    None,
-    Some(Duration),
-}
-
-fn shorter(a: Duration, b: Duration) -> Duration
-    ensures { result ≡ Spec.shorter a b }
-{
-    if a.0 <= b.0 { a } else { b }
-}
-
-fn longer(a: Duration, b: Duration) -> Duration
-    ensures { result ≡ Spec.longer a b }
-{
-    if a.0 <= b.0 { b } else { a }
-}
-
 fn budget_cap(total: Duration, hard_cap: Duration, divisor: u64) -> Duration
     requires { 1 ≤ divisor }
     ensures { result ≡ Spec.budget_cap total hard_cap divisor }
 {
-    let share = Duration(total.0 / divisor);
-    shorter(longer(share, REGISTER_POLL_INTERVAL), hard_cap)
+    Duration(total.0 / divisor)
+        .max(REGISTER_POLL_INTERVAL)
+        .min(hard_cap)
 }
 
 pub fn mode_read_cap(total: Duration) -> Duration
@@ -58,47 +40,33 @@ pub fn hold_read_cap(total: Duration) -> Duration
 pub fn deadline_after(now: Instant, timeout: Duration) -> Instant
     ensures { result ≡ Spec.deadline_after now timeout }
 {
-    if timeout.0 <= 0xffff_ffff_ffff_ffff - now.0 {
-        return Instant(now.0 + timeout.0);
-    }
-    Instant(0xffff_ffff_ffff_ffff)
+    Instant(now.0.saturating_add(timeout.0))
 }
 
-fn remaining_until(deadline: Instant, now: Instant) -> TimeLeft
+fn remaining_until(deadline: Instant, now: Instant) -> Option<Duration>
     ensures { result ≡ Spec.remaining_until deadline now }
 {
-    if now.0 <= deadline.0 {
-        return TimeLeft::Some(Duration(deadline.0 - now.0));
-    }
-    TimeLeft::None
+    deadline.0.checked_sub(now.0).map(Duration)
 }
 
-pub fn capped_remaining(deadline: Instant, cap: Duration, now: Instant) -> TimeLeft
+pub fn capped_remaining(deadline: Instant, cap: Duration, now: Instant) -> Option<Duration>
     ensures { result ≡ Spec.capped_remaining deadline cap now }
 {
-    let remaining = remaining_until(deadline, now);
-    match remaining {
-        TimeLeft::None => TimeLeft::None,
-        TimeLeft::Some(left) => TimeLeft::Some(shorter(left, cap)),
-    }
+    remaining_until(deadline, now).map(|left| left.min(cap))
 }
 
-fn beyond(left: Duration, reserve: Duration) -> TimeLeft
+fn beyond(left: Duration, reserve: Duration) -> Option<Duration>
     ensures { result ≡ Spec.beyond left reserve }
 {
-    if left.0 <= reserve.0 {
-        return TimeLeft::None;
+    if left <= reserve {
+        return None;
     }
-    TimeLeft::Some(shorter(ENSURE_MODE_SETTLE, Duration(left.0 - reserve.0)))
+    Some(ENSURE_MODE_SETTLE.min(Duration(left.0 - reserve.0)))
 }
 
 // The settling sleep, or none where the reserve leaves no time for it.
-pub fn sleep_up_to_reserving(deadline: Instant, reserve: Duration, now: Instant) -> TimeLeft
+pub fn sleep_up_to_reserving(deadline: Instant, reserve: Duration, now: Instant) -> Option<Duration>
     ensures { result ≡ Spec.sleep_up_to_reserving deadline reserve now }
 {
-    let remaining = remaining_until(deadline, now);
-    match remaining {
-        TimeLeft::None => TimeLeft::None,
-        TimeLeft::Some(left) => beyond(left, reserve),
-    }
+    beyond(remaining_until(deadline, now)?, reserve)
 }

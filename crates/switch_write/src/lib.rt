@@ -3,74 +3,64 @@
 #![tactic(auto)]
 
 ghost use Rattle.std.specs.Prelude.{◌≡◌};
-ghost use Rattle.switch_stage.specs.Stage as Stages;
 ghost use Rattle.switch_write.specs.WriteMode as Spec;
 
 use protocol_hold::ControlMode;
-use run_write::{WriteNext, first_try};
-use switch_finish::{FinishNext, finish};
-use switch_prepare::PrepareNext;
-use switch_stage::{ModeRead, Progress, Stage, Switch, SwitchNext};
-use switch_time::{TimeLeft, mode_read_cap, sleep_up_to_reserving};
+use run_want::step::{Step, Stepped};
+use run_write::{Write, first_try};
+use switch_finish::{Finishing, finish};
+use switch_prepare::Prepare;
+use switch_stage::{ModeRead, Progress, Stage, Switch, goes};
+use switch_time::{mode_read_cap, sleep_up_to_reserving};
 use time::{Duration, Instant};
 
 const ENSURE_MODE_VERIFY_ATTEMPTS: u8 = 3;
 
-fn goes(progress: Progress, stage: Stage) -> SwitchNext
-    ensures { result ≡ Stages.goes progress stage }
-{
-    SwitchNext::Goes(Switch::Begun(progress, stage))
-}
-
-pub fn write_mode(verifies_left: u8, progress: Progress) -> SwitchNext
+pub fn write_mode(verifies_left: u8, progress: Progress) -> Stepped<Switch, ()>
     ensures { result ≡ Spec.write_mode verifies_left progress }
 {
     goes(progress, Stage::Writing(verifies_left, first_try()))
 }
 
 // After a step of the preparation: it goes on, or the mode is written.
-pub fn after_prepare(next: PrepareNext) -> SwitchNext
+pub fn after_prepare(next: Prepare) -> Stepped<Switch, ()>
     ensures { result ≡ Spec.after_prepare next }
 {
     match next {
-        PrepareNext::Goes(progress, stage) => return goes(progress, stage),
-        PrepareNext::Ready(progress) => return write_mode(
-            ENSURE_MODE_VERIFY_ATTEMPTS - 1,
-            progress,
-        ),
+        Step::Goes((progress, stage)) => goes(progress, stage),
+        Step::Ends(progress) => write_mode(ENSURE_MODE_VERIFY_ATTEMPTS - 1, progress),
     }
 }
 
 // After a step of the write.
-pub fn after_mode_write(verifies_left: u8, progress: Progress, next: WriteNext) -> SwitchNext
+pub fn after_mode_write(
+    verifies_left: u8,
+    progress: Progress,
+    next: Stepped<Write, ()>,
+) -> Stepped<Switch, ()>
     ensures { result ≡ Spec.after_mode_write verifies_left progress next }
 {
-    match next {
-        WriteNext::Goes(write) => return goes(progress, Stage::Writing(verifies_left, write)),
-        WriteNext::Written => return goes(progress, Stage::SettleRemaining(verifies_left)),
-        WriteNext::Failed(failure) => return SwitchNext::Failed(failure),
+    match next? {
+        Step::Goes(write) => goes(progress, Stage::Writing(verifies_left, write)),
+        Step::Ends(()) => goes(progress, Stage::SettleRemaining(verifies_left)),
     }
 }
 
-// After a step of the finish: the hold frame, or the verifying read.
-pub fn after_finish(verifies_left: u8, progress: Progress, next: FinishNext) -> SwitchNext
+// After the finish: the hold frame, or the verifying read.
+pub fn after_finish(verifies_left: u8, progress: Progress, next: Finishing) -> Stepped<Switch, ()>
     ensures { result ≡ Spec.after_finish verifies_left progress next }
 {
     match next {
-        FinishNext::Holds => return goes(progress, Stage::Holding(verifies_left)),
-        FinishNext::Done => {
-            return goes(progress, Stage::Remaining(ModeRead::Verify(verifies_left)));
-        }
-        FinishNext::Failed(failure) => return SwitchNext::Failed(failure),
+        Finishing::Holds => goes(progress, Stage::Holding(verifies_left)),
+        Finishing::Done => goes(progress, Stage::Remaining(ModeRead::Verify(verifies_left))),
     }
 }
 
 // What follows the settling sleep.
-pub fn slept(mode: ControlMode, verifies_left: u8, progress: Progress) -> SwitchNext
+pub fn slept(mode: ControlMode, verifies_left: u8, progress: Progress) -> Stepped<Switch, ()>
     ensures { result ≡ Spec.slept mode verifies_left progress }
 {
-    let position = progress.hold_position;
-    after_finish(verifies_left, progress, finish(mode, position))
+    after_finish(verifies_left, progress, finish(mode, progress.hold_position))
 }
 
 // The settling sleep, as long as there is time for it.
@@ -80,12 +70,11 @@ pub fn settle_sleep(
     verifies_left: u8,
     progress: Progress,
     now: Instant,
-) -> SwitchNext
+) -> Stepped<Switch, ()>
     ensures { result ≡ Spec.settle_sleep mode timeout verifies_left progress now }
 {
-    let left = sleep_up_to_reserving(progress.deadline, mode_read_cap(timeout), now);
-    match left {
-        TimeLeft::None => return slept(mode, verifies_left, progress),
-        TimeLeft::Some(length) => return goes(progress, Stage::SettleSleep(verifies_left, length)),
+    match sleep_up_to_reserving(progress.deadline, mode_read_cap(timeout), now) {
+        None => slept(mode, verifies_left, progress),
+        Some(length) => goes(progress, Stage::SettleSleep(verifies_left, length)),
     }
 }
