@@ -6,33 +6,33 @@ use mathlib.Core.List.{List, [], ◌∷◌}
 use lib.Dec.{T}
 use lib.Ieee.{round, le}
 use Rattle.text.specs.Text.{same}
-use Rattle.motor_core.specs.Error as Error
+use Rattle.std.specs.Prelude.{Result, Ok, Err}
+use Rattle.motor_core.specs.Outcome.{and_then}
 use Rattle.motor_core.specs.Model.{limit_accepted, from_maxima, limits_of}
 use Rattle.motor_core.specs.Name.{spelling}
-use Rattle.motor_core.specs.declared.model.LimitCheck.TheVariants as Check
+use Rattle.motor_core.specs.declared.error.Refusal.{Refusal}
+use Rattle.motor_core.specs.declared.error.Refusal.TheVariants.{Limit}
+use Rattle.motor_core.specs.declared.model.Maxima.{Maxima}
 use Rattle.model_list.specs.Models.{limits_by_name}
 use Rattle.model_damiao.specs.Damiao.{damiao_models}
-use Rattle.model_list.specs.declared.Maxima.{Maxima}
 use Rattle.model_list.specs.declared.MotorModelSpec.{MotorModelSpec}
-use Rattle.model_list.specs.declared.ModelLimits.{ModelLimits}
-use Rattle.model_list.specs.declared.ModelLimits.TheVariants.{Limits}
 use Rattle.session.specs.BuiltIn.{maxima_accepted, all_accepted, by_motor_id, untested}
-use Rattle.session.specs.Start.{by_limits, from_limits, by_name, from_model}
+use Rattle.session.specs.Start.{with_limits, from_limits, from_model}
 
 module _ (motor_id feedback_id : ℕ) where
   limits_taken : (m : Maxima) → maxima_accepted m ≡ true → from_limits motor_id feedback_id m ≡ by_motor_id motor_id feedback_id m
   unfolding from_limits limits_of
   limits_taken m e =
-      ap (λ (b : Bool). by_limits (cond b (Check.Accepted (from_maxima m.p_max m.v_max m.t_max)) (Check.Refused Error.limit)) motor_id feedback_id) e
+      ap (λ (b : Bool). and_then (cond b (Ok (from_maxima m)) (Err Limit)) (with_limits motor_id feedback_id)) e
 
   -- the first model or a later one
-  one_more : (m : Maxima) (found : ModelLimits) (here ok all : Bool) → maxima_accepted m ≡ ok → T (ok && all) → (T all → by_name found motor_id feedback_id ≡ untested motor_id feedback_id found)
-      → by_name (cond here (Limits m) found) motor_id feedback_id ≡ untested motor_id feedback_id (cond here (Limits m) found)
+  one_more : (m : Maxima) (found : Result Maxima Refusal) (here ok all : Bool) → maxima_accepted m ≡ ok → T (ok && all) → (T all → and_then found (from_limits motor_id feedback_id) ≡ untested motor_id feedback_id found)
+      → and_then (cond here (Ok m) found) (from_limits motor_id feedback_id) ≡ untested motor_id feedback_id (cond here (Ok m) found)
   one_more m found here false all e t rest = absurd t
   one_more m found true true all e t rest = limits_taken m e
   one_more m found false true all e t rest = rest t
 
-  by_listed : (models : List MotorModelSpec) → T (all_accepted models) → (name : List ℕ) → by_name (limits_by_name models name) motor_id feedback_id ≡ untested motor_id feedback_id (limits_by_name models name)
+  by_listed : (models : List MotorModelSpec) → T (all_accepted models) → (name : List ℕ) → and_then (limits_by_name models name) (from_limits motor_id feedback_id) ≡ untested motor_id feedback_id (limits_by_name models name)
   unfolding limits_by_name all_accepted
   by_listed [] t name = refl
   by_listed (spec ∷ rest) t name =

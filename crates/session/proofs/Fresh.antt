@@ -4,30 +4,32 @@ use mathlib.Core.Path.{◌≡◌, refl}
 use lib.ListN.{length, replicate, length-replicate}
 use Rattle.motor_core.specs.declared.model.PvTLimits.{PvTLimits}
 use Rattle.state_feedback.specs.Feedback.{no_feedback}
-use Rattle.state_cache.specs.Cache.{empty, slot_of}
-use Rattle.session.specs.Session.{closed, fresh}
+use Rattle.std.specs.Prelude.{None}
+use Rattle.state_cache.specs.Cache.{slot_of}
+use Rattle.state_cache.specs.declared.Entry.TheVariants.{Empty}
+use Rattle.session.specs.Session.{fresh}
 
-all_empty : (n rid : ℕ) → slot_of (replicate n empty) rid ≡ empty
+all_empty : (n rid : ℕ) → slot_of (replicate n Empty) rid ≡ Empty
 all_empty zero rid = refl
 all_empty (suc n) zero = refl
 all_empty (suc n) (suc rid) = all_empty n rid
 
 module _ (motor_id feedback_id : ℕ) (limits : PvTLimits) where
-  pub fresh_reply : (rid : ℕ) → slot_of (fresh motor_id feedback_id limits).replies rid ≡ empty
+  pub fresh_reply : (rid : ℕ) → slot_of (fresh motor_id feedback_id limits).replies rid ≡ Empty
   unfolding fresh
   fresh_reply rid = all_empty 82 rid
 
-  pub fresh_ack : (rid : ℕ) → slot_of (fresh motor_id feedback_id limits).acks rid ≡ empty
+  pub fresh_ack : (rid : ℕ) → slot_of (fresh motor_id feedback_id limits).acks rid ≡ Empty
   unfolding fresh
   fresh_ack rid = all_empty 82 rid
 
   pub fresh_replies : length (fresh motor_id feedback_id limits).replies ≡ 82
   unfolding fresh
-  fresh_replies = length-replicate 82 empty
+  fresh_replies = length-replicate 82 Empty
 
   pub fresh_acks : length (fresh motor_id feedback_id limits).acks ≡ 82
   unfolding fresh
-  fresh_acks = length-replicate 82 empty
+  fresh_acks = length-replicate 82 Empty
 
   pub fresh_motor_id : (fresh motor_id feedback_id limits).head.motor_id ≡ motor_id
   unfolding fresh
@@ -49,6 +51,6 @@ module _ (motor_id feedback_id : ℕ) (limits : PvTLimits) where
   unfolding fresh
   fresh_last = refl
 
-  pub fresh_run : (fresh motor_id feedback_id limits).run ≡ closed
+  pub fresh_run : (fresh motor_id feedback_id limits).run ≡ None
   unfolding fresh
   fresh_run = refl

@@ -11,8 +11,8 @@ ghost use Rattle.session.specs.Session as Spec;
 use motor_core::bus::CanFrame;
 use motor_core::model::PvTLimits;
 use run_machine::Machine;
-use state_cache::Slot;
-use state_feedback::{FeedbackCache, Latest};
+use state_cache::Entry;
+use state_feedback::{FeedbackCache, FeedbackSnapshot};
 use time::Instant;
 
 // The ids and limits of the motor, its latest record, and the last reading: the small part that a frame
@@ -26,39 +26,20 @@ pub struct Head {
     pub last: Instant,
 }
 
-// Whether a run is open, and then where its machine stands.
-#[derive(Clone, Copy)]
-pub enum Phase {
-    Closed,
-    Open(Machine),
-}
-
-#[derive(Clone, Copy)]
-pub struct Run {
-    pub phase: Phase,
-}
-
-// A slot for each register number up to the last register, 81.
+// A slot for each register number up to the last register, 81, and the machine of the run that is open.
 #[derive(Clone, Copy)]
 pub struct Session {
     pub head: Head,
-    pub replies: [Slot; 82],
-    pub acks: [Slot; 82],
-    pub run: Run,
+    pub replies: [Entry; 82],
+    pub acks: [Entry; 82],
+    pub run: Option<Machine>,
 }
 
+// The session goes by value, so that it stands beside the answer.
 #[derive(Clone, Copy)]
 pub struct AfterPatch {
     pub session: Session,
     pub patched: bool,
-}
-
-fn closed_run() -> Run
-    ensures { result ≡ Spec.closed }
-{
-    Run {
-        phase: Phase::Closed,
-    }
 }
 
 // Whether a frame may be this motor's. Taking a frame does not ask.
@@ -69,24 +50,27 @@ pub fn accepts_frame(head: Head, frame: CanFrame) -> bool
 }
 
 // The latest record, if there is one.
-pub fn latest_state_snapshot(head: Head) -> Latest
+pub fn latest_state_snapshot(head: Head) -> Option<FeedbackSnapshot>
     ensures { result ≡ head.feedback.latest }
 {
-    let feedback = head.feedback;
-    feedback.latest
+    head.feedback.latest
 }
 
 // Sets status and temperatures of the latest record, and answers whether there is one.
 pub fn patch_latest(mut session: Session, status: u8, t_mos: u8, t_rotor: u8) -> AfterPatch
     ensures { result ≡ Spec.patch session status t_mos t_rotor }
 {
-    let mut head = session.head;
-    let patch = state_feedback::patch_latest(head.feedback, status, t_mos, t_rotor);
-    let cache = patch.cache;
-    head.feedback = cache;
-    session.head = head;
-    AfterPatch {
-        session,
-        patched: patch.patched,
+    match state_feedback::patch_latest(session.head.feedback, status, t_mos, t_rotor) {
+        Some(feedback) => {
+            session.head.feedback = feedback;
+            AfterPatch {
+                session,
+                patched: true,
+            }
+        }
+        None => AfterPatch {
+            session,
+            patched: false,
+        },
     }
 }
