@@ -9,6 +9,8 @@ use native.Mathlib.Nat.{le_refl}
 use lib.Dec.{T, eqb, eqb→eq, eqb_refl}
 use lib.ListN.{length, length-set}
 use lib.Seq.{get_or-set_same, get_or-set_other}
+use Rattle.std.specs.Prelude.{Ok, Err}
+use Rattle.motor_core.specs.declared.error.Refusal.{Refusal}
 use Rattle.motor_core.specs.declared.bus.CanFrame.{CanFrame}
 use Rattle.motor_core.specs.declared.model.PvTLimits.{PvTLimits}
 use Rattle.time.specs.declared.Instant.{Instant}
@@ -24,13 +26,12 @@ use Rattle.protocol_received.specs.declared.Received.{Received}
 use Rattle.protocol_received.specs.declared.Received.TheVariants.{Reply, Ack, Feedback}
 use Rattle.protocol_received.proofs.OfRegister.{of_register as of_d3}
 use Rattle.state_feedback.specs.declared.FeedbackCache.{FeedbackCache}
-use Rattle.state_cache.specs.Cache.{empty, held, slot_of}
+use Rattle.state_cache.specs.Cache.{slot_of}
 use Rattle.session.specs.declared.Session.{Session}
-use Rattle.state_cache.specs.declared.Slot.{Slot}
+use Rattle.state_cache.specs.declared.Entry.{Entry}
+use Rattle.state_cache.specs.declared.Entry.TheVariants.{Empty, Held}
 use Rattle.session_frame.specs.Effects.{reported, if_taken, reply_taken, ack_taken, state_taken, of_register, slot_with, record_with, last_with}
-use Rattle.session_frame.specs.Frame.{frame_outcome, feedback_after, reply_of, ack_of, stored, with_received, says, take_by, take_frame}
-use Rattle.session_frame.specs.declared.FrameOutcome.{FrameOutcome}
-use Rattle.session_frame.specs.declared.FrameOutcome.TheVariants.{Taken, Refused}
+use Rattle.session_frame.specs.Frame.{FrameOutcome, frame_outcome, feedback_after, reply_of, ack_of, stored, with_received, says, take_by, take_frame}
 use Rattle.session_frame.proofs.Outcomes.{taken_reading}
 
 -- a register that is known, where one is named
@@ -39,7 +40,7 @@ Known none = Unit {0}
 Known (some x) = known x.0 ≡ true
 
 -- one register's slot, once a value is stored
-slot_stored : (slots : List Slot) (rid : ℕ) (x : Option (ℕ × RegisterValue)) (t : Instant) → length slots ≡ 82 → Known x → slot_of (stored x t slots) rid ≡ slot_with (of_register rid x) t (slot_of slots rid)
+slot_stored : (slots : List Entry) (rid : ℕ) (x : Option (ℕ × RegisterValue)) (t : Instant) → length slots ≡ 82 → Known x → slot_of (stored x t slots) rid ≡ slot_with (of_register rid x) t (slot_of slots rid)
 slot_stored slots rid none t size k = refl
 slot_stored slots rid (some x) t size k = go (eqb rid x.0) (eqb→eq rid x.0) (λ same. subst (λ (i : ℕ). T (eqb rid i)) same (eqb_refl rid))
   where
@@ -47,12 +48,12 @@ slot_stored slots rid (some x) t size k = go (eqb rid x.0) (eqb→eq rid x.0) (�
     here = subst (λ (m : ℕ). x.0 < m) (sym size) (known_below x.0 k)
 
     go : (b : Bool) → (T b → rid ≡ x.0) → (rid ≡ x.0 → T b) → slot_of (stored (some x) t slots) rid ≡ slot_with (cond b (some x.1) none) t (slot_of slots rid)
-    go true same of = ap (slot_of (stored (some x) t slots)) (same tt) ∙ get_or-set_same slots x.0 (held x.1 t) empty here
-    go false same of = get_or-set_other slots x.0 rid (held x.1 t) empty (λ e. of e)
+    go true same of = ap (slot_of (stored (some x) t slots)) (same tt) ∙ get_or-set_same slots x.0 (Held x.1 t) Empty here
+    go false same of = get_or-set_other slots x.0 rid (Held x.1 t) Empty (λ e. of e)
 
-length_stored : (x : Option (ℕ × RegisterValue)) (t : Instant) (slots : List Slot) → length (stored x t slots) ≡ length slots
+length_stored : (x : Option (ℕ × RegisterValue)) (t : Instant) (slots : List Entry) → length (stored x t slots) ≡ length slots
 length_stored none t slots = refl
-length_stored (some x) t slots = length-set slots x.0 (held x.1 t)
+length_stored (some x) t slots = length-set slots x.0 (Held x.1 t)
 
 -- nothing is brought of a register that is not known
 unknown_none : (rid : ℕ) (x : Option (ℕ × RegisterValue)) → known rid ≡ false → Known x → of_register rid x ≡ none
@@ -91,8 +92,8 @@ ack_known (Ack rid v) n (e, k) = ap known e ∙ k
 ack_known (Feedback f) n of = tt
 
 taken_known : (o : FrameOutcome) (x : Option (ℕ × RegisterValue)) → Known x → Known (if_taken o x)
-taken_known Taken x k = k
-taken_known (Refused n) x k = tt
+taken_known (Ok taken) x k = k
+taken_known (Err n) x k = tt
 
 record_of : (cache : FeedbackCache) (id : ℕ) (r : Received) (t : Instant) → feedback_after cache id r t ≡ record_with (reported id r) t cache
 record_of cache id (Reply r v) t = refl
@@ -117,13 +118,13 @@ module _ (s : Session) (frame : CanFrame) (t : Instant) where
   named = of_d3 s.head.limits frame.«data»
 
   -- a cache, by what is stored in it of a frame that is taken
-  cache_after : (cache : Session → List Slot) (of : Received → Option (ℕ × RegisterValue)) → cache (take_by Taken s frame t) ≡ stored (of (says s.head frame)) t (cache s) → cache after ≡ stored (if_taken outcome (of (says s.head frame))) t (cache s)
+  cache_after : (cache : Session → List Entry) (of : Received → Option (ℕ × RegisterValue)) → cache (take_by (Ok tt) s frame t) ≡ stored (of (says s.head frame)) t (cache s) → cache after ≡ stored (if_taken outcome (of (says s.head frame))) t (cache s)
   unfolding take_frame
   cache_after cache of e = go outcome
     where
       go : (o : FrameOutcome) → cache (take_by o s frame t) ≡ stored (if_taken o (of (says s.head frame))) t (cache s)
-      go Taken = e
-      go (Refused n) = refl
+      go (Ok taken) = e
+      go (Err n) = refl
 
   pub replies_after_frame : after.replies ≡ stored (reply_taken s.head frame t) t s.replies
   replies_after_frame = cache_after (λ (x : Session). x.replies) reply_of refl
@@ -139,10 +140,10 @@ module _ (s : Session) (frame : CanFrame) (t : Instant) where
 
   -- one register's reply, and its ack
   pub reply_after_frame : (rid : ℕ) → length s.replies ≡ 82 → slot_of after.replies rid ≡ slot_with (of_register rid (reply_taken s.head frame t)) t (slot_of s.replies rid)
-  reply_after_frame rid size = ap (λ (slots : List Slot). slot_of slots rid) replies_after_frame ∙ slot_stored s.replies rid reply t size reply_taken_known
+  reply_after_frame rid size = ap (λ (slots : List Entry). slot_of slots rid) replies_after_frame ∙ slot_stored s.replies rid reply t size reply_taken_known
 
   pub ack_after_frame : (rid : ℕ) → length s.acks ≡ 82 → slot_of after.acks rid ≡ slot_with (of_register rid (ack_taken s.head frame t)) t (slot_of s.acks rid)
-  ack_after_frame rid size = ap (λ (slots : List Slot). slot_of slots rid) acks_after_frame ∙ slot_stored s.acks rid ack t size ack_taken_known
+  ack_after_frame rid size = ap (λ (slots : List Entry). slot_of slots rid) acks_after_frame ∙ slot_stored s.acks rid ack t size ack_taken_known
 
   -- the record with its number and stamp
   pub record_after_frame : after.head.feedback ≡ record_with (state_taken s.head frame t) t s.head.feedback
@@ -150,8 +151,8 @@ module _ (s : Session) (frame : CanFrame) (t : Instant) where
   record_after_frame = go outcome
     where
       go : (o : FrameOutcome) → (take_by o s frame t).head.feedback ≡ record_with (if_taken o (reported frame.arbitration_id (says s.head frame))) t s.head.feedback
-      go Taken = record_of s.head.feedback frame.arbitration_id (says s.head frame) t
-      go (Refused n) = refl
+      go (Ok taken) = record_of s.head.feedback frame.arbitration_id (says s.head frame) t
+      go (Err n) = refl
 
   -- the last reading, which never goes back, nor beyond 2^62
   pub last_after_frame : after.head.last ≡ last_with outcome t s.head.last
@@ -159,22 +160,22 @@ module _ (s : Session) (frame : CanFrame) (t : Instant) where
   last_after_frame = go outcome
     where
       go : (o : FrameOutcome) → (take_by o s frame t).head.last ≡ last_with o t s.head.last
-      go Taken = refl
-      go (Refused n) = refl
+      go (Ok taken) = refl
+      go (Err n) = refl
 
   pub last_goes_on : s.head.last.0 ≤ after.head.last.0
   last_goes_on = subst (λ (l : Instant). s.head.last.0 ≤ l.0) (sym last_after_frame) (go outcome refl)
     where
       go : (o : FrameOutcome) → outcome ≡ o → s.head.last.0 ≤ (last_with o t s.head.last).0
-      go Taken e = (taken_reading s.head frame t e).0
-      go (Refused n) e = le_refl s.head.last.0
+      go (Ok taken) e = (taken_reading s.head frame t e).0
+      go (Err n) e = le_refl s.head.last.0
 
   pub last_stays_within : s.head.last.0 ≤ 2 ^ 62 → after.head.last.0 ≤ 2 ^ 62
   last_stays_within bound = subst (λ (l : Instant). l.0 ≤ 2 ^ 62) (sym last_after_frame) (go outcome refl)
     where
       go : (o : FrameOutcome) → outcome ≡ o → (last_with o t s.head.last).0 ≤ 2 ^ 62
-      go Taken e = (taken_reading s.head frame t e).1
-      go (Refused n) e = bound
+      go (Ok taken) e = (taken_reading s.head frame t e).1
+      go (Err n) e = bound
 
   -- what neither a reply nor an ack nor a feedback changes
   stays : {A : Type 0} (part : Session → A) → part (with_received s frame.arbitration_id (says s.head frame) t) ≡ part s → part after ≡ part s
@@ -182,8 +183,8 @@ module _ (s : Session) (frame : CanFrame) (t : Instant) where
   stays {A} part e = go outcome
     where
       go : (o : FrameOutcome) → part (take_by o s frame t) ≡ part s
-      go Taken = e
-      go (Refused n) = refl
+      go (Ok taken) = e
+      go (Err n) = refl
 
   pub record Left : Type 0 where
     pub motor_id : after.head.motor_id ≡ s.head.motor_id
@@ -208,7 +209,7 @@ module _ (s : Session) (frame : CanFrame) (t : Instant) where
   unfolding take_frame
   outcome_of_frame = refl
 
-  pub turned_back : (n : ℕ) → (take_frame s frame t).outcome ≡ Refused n → after ≡ s
+  pub turned_back : (n : Refusal) → (take_frame s frame t).outcome ≡ Err n → after ≡ s
   unfolding take_frame
   turned_back n e = ap (λ (o : FrameOutcome). take_by o s frame t) e
 

@@ -1,5 +1,5 @@
 -- What a frame brings to a session, for laws and claims that look at one register or at the record. Definitions only.
-use Rattle.std.specs.Prelude.{ℕ, cond, eqb}
+use Rattle.std.specs.Prelude.{ℕ, cond, eqb, Ok, Err}
 use Rattle.std.proofs.Math.Option.{Option, none, some}
 use Rattle.motor_core.specs.declared.bus.CanFrame.{CanFrame}
 use Rattle.time.specs.declared.Instant.{Instant}
@@ -9,12 +9,10 @@ use Rattle.protocol_received.specs.declared.Received.TheVariants.{Reply, Ack, Fe
 use Rattle.state_feedback.specs.Feedback.{state_of, update}
 use Rattle.state_feedback.specs.declared.FeedbackCache.{FeedbackCache}
 use Rattle.state_feedback.specs.declared.MotorFeedbackState.{MotorFeedbackState}
-use Rattle.state_cache.specs.Cache.{held}
+use Rattle.state_cache.specs.declared.Entry.{Entry}
+use Rattle.state_cache.specs.declared.Entry.TheVariants.{Held}
 use Rattle.session.specs.declared.Head.{Head}
-use Rattle.state_cache.specs.declared.Slot.{Slot}
-use Rattle.session_frame.specs.Frame.{frame_outcome, reply_of, ack_of, says}
-use Rattle.session_frame.specs.declared.FrameOutcome.{FrameOutcome}
-use Rattle.session_frame.specs.declared.FrameOutcome.TheVariants.{Taken, Refused}
+use Rattle.session_frame.specs.Frame.{FrameOutcome, frame_outcome, reply_of, ack_of, says}
 
 -- the state that a frame under this id says
 abbrev pub reported : ℕ → Received → Option MotorFeedbackState
@@ -24,8 +22,8 @@ reported id (Feedback f) = some (state_of id f)
 
 -- a refused frame brings nothing
 abbrev pub if_taken : {A : Type 0} → FrameOutcome → Option A → Option A
-if_taken Taken brought = brought
-if_taken (Refused number) brought = none
+if_taken (Ok taken) brought = brought
+if_taken (Err refusal) brought = none
 
 abbrev pub reply_taken : Head → CanFrame → Instant → Option (ℕ × RegisterValue)
 reply_taken h frame reading = if_taken (frame_outcome h frame reading) (reply_of (says h frame))
@@ -41,9 +39,9 @@ abbrev pub of_register : ℕ → Option (ℕ × RegisterValue) → Option Regist
 of_register rid none = none
 of_register rid (some x) = cond (eqb rid x.0) (some x.1) none
 
-abbrev pub slot_with : Option RegisterValue → Instant → Slot → Slot
+abbrev pub slot_with : Option RegisterValue → Instant → Entry → Entry
 slot_with none reading slot = slot
-slot_with (some value) reading slot = held value reading
+slot_with (some value) reading slot = Held value reading
 
 -- the record with the state that was brought, and the last reading
 abbrev pub record_with : Option MotorFeedbackState → Instant → FeedbackCache → FeedbackCache
@@ -51,5 +49,5 @@ record_with none reading cache = cache
 record_with (some state) reading cache = update cache state reading
 
 abbrev pub last_with : FrameOutcome → Instant → Instant → Instant
-last_with Taken reading last = reading
-last_with (Refused number) reading last = last
+last_with (Ok taken) reading last = reading
+last_with (Err refusal) reading last = last

@@ -1,7 +1,9 @@
 -- Taking a frame: what it does to each part of a session. Definitions only.
-use Rattle.std.specs.Prelude.{ℕ, cond, List, set}
+use Rattle.std.specs.Prelude.{ℕ, cond, List, set, Result, Ok, Err}
 use Rattle.std.proofs.Math.Option.{Option, none, some}
-use Rattle.motor_core.specs.Error as Error
+use Rattle.motor_core.specs.Outcome.{and_then}
+use Rattle.motor_core.specs.declared.error.Refusal.{Refusal}
+use Rattle.motor_core.specs.declared.error.Refusal.TheVariants as Refusal
 use Rattle.time.specs.Time.{reading_accepted}
 use Rattle.motor_core.specs.declared.bus.CanFrame.{CanFrame}
 use Rattle.time.specs.declared.Instant.{Instant}
@@ -11,27 +13,28 @@ use Rattle.protocol_received.specs.declared.Received.{Received}
 use Rattle.protocol_received.specs.declared.Received.TheVariants.{Reply, Ack, Feedback}
 use Rattle.state_feedback.specs.Feedback.{state_of, update}
 use Rattle.state_feedback.specs.declared.FeedbackCache.{FeedbackCache}
-use Rattle.state_cache.specs.Cache.{held}
+use Rattle.state_cache.specs.declared.Entry.{Entry}
+use Rattle.state_cache.specs.declared.Entry.TheVariants.{Held}
 use Rattle.session.specs.Session.{with_feedback, with_last, with_head, with_replies, with_acks}
 use Rattle.session.specs.declared.Head.{Head}
 use Rattle.session.specs.declared.Session.{Session}
-use Rattle.state_cache.specs.declared.Slot.{Slot}
-use Rattle.session_frame.specs.declared.FrameOutcome.{FrameOutcome}
-use Rattle.session_frame.specs.declared.FrameOutcome.TheVariants.{Taken, Refused}
 use Rattle.session_frame.specs.declared.Kept.{Kept}
 use Rattle.session_frame.specs.declared.Kept.TheVariants as Keep
 use Rattle.session_frame.specs.declared.FrameStep.{FrameStep}
 use Rattle.session_frame.specs.declared.AfterFrame.{AfterFrame}
 
--- 'Turned back', a frame: 3 by its reading; nothing of the frame itself is tested
+-- a frame is taken, or refused by its reading; nothing of the frame itself is tested
+abbrev pub FrameOutcome : Type 0
+FrameOutcome = Result (Unit {0}) Refusal
+
 abbrev pub frame_outcome : Head → CanFrame → Instant → FrameOutcome
-frame_outcome head frame reading = cond (reading_accepted head.last reading) Taken (Refused Error.reading)
+frame_outcome head frame reading = cond (reading_accepted head.last reading) (Ok tt) (Err Refusal.Reading)
 
 -- the reading becomes the last
 abbrev pub head_at : Head → FeedbackCache → Instant → Head
 head_at h feedback reading = with_last (with_feedback h feedback) reading
 
--- 'The feedback on the screen': a feedback becomes the latest record, with the frame's arbitration id
+-- a feedback becomes the latest record, with the frame's arbitration id
 abbrev pub feedback_after : FeedbackCache → ℕ → Received → Instant → FeedbackCache
 feedback_after cache id (Feedback f) reading = update cache (state_of id f) reading
 feedback_after cache id (Reply rid value) reading = cache
@@ -51,10 +54,10 @@ ack_of (Reply rid value) = none
 ack_of (Ack rid value) = some (rid, value)
 ack_of (Feedback f) = none
 
--- 'The register answers': a value goes into its register's slot, stamped with the frame's reading
-abbrev pub stored : Option (ℕ × RegisterValue) → Instant → List Slot → List Slot
+-- a value goes into its register's slot, stamped with the frame's reading
+abbrev pub stored : Option (ℕ × RegisterValue) → Instant → List Entry → List Entry
 stored none reading slots = slots
-stored (some x) reading slots = set slots x.0 (held x.1 reading)
+stored (some x) reading slots = set slots x.0 (Held x.1 reading)
 
 -- a session after a frame, by what the frame says: replies and acks have a cache each, and the run is left alone
 abbrev pub with_received : Session → ℕ → Received → Instant → Session
@@ -70,8 +73,8 @@ abbrev pub says : Head → CanFrame → Received
 says h frame = received h.limits frame.«data»
 
 abbrev pub take_by : FrameOutcome → Session → CanFrame → Instant → Session
-take_by Taken s frame reading = with_received s frame.arbitration_id (says s.head frame) reading
-take_by (Refused number) s frame reading = s
+take_by (Ok taken) s frame reading = with_received s frame.arbitration_id (says s.head frame) reading
+take_by (Err refusal) s frame reading = s
 
 -- a frame taken into a session, or refused with the session as it was
 unfoldable pub take_frame : Session → CanFrame → Instant → AfterFrame
@@ -81,16 +84,12 @@ take_frame s frame reading =
 
 -- The same on the small parts, and what is to be kept in a cache.
 abbrev pub kept_of : Received → Instant → Kept
-kept_of (Reply rid value) reading = Keep.Reply rid (held value reading)
-kept_of (Ack rid value) reading = Keep.Ack rid (held value reading)
+kept_of (Reply rid value) reading = Keep.Reply rid (Held value reading)
+kept_of (Ack rid value) reading = Keep.Ack rid (Held value reading)
 kept_of (Feedback f) reading = Keep.Nothing
 
 abbrev pub taken_step : Head → ℕ → Received → Instant → FrameStep
-taken_step h id received reading = record { outcome = Taken; head = head_after h id received reading; kept = kept_of received reading }
+taken_step h id received reading = record { head = head_after h id received reading; kept = kept_of received reading }
 
-abbrev pub step_by : FrameOutcome → Head → CanFrame → Instant → FrameStep
-step_by Taken h frame reading = taken_step h frame.arbitration_id (says h frame) reading
-step_by (Refused number) h frame reading = record { outcome = Refused number; head = h; kept = Keep.Nothing }
-
-unfoldable pub frame_step : Head → CanFrame → Instant → FrameStep
-frame_step h frame reading = step_by (frame_outcome h frame reading) h frame reading
+unfoldable pub frame_step : Head → CanFrame → Instant → Result FrameStep Refusal
+frame_step h frame reading = and_then (frame_outcome h frame reading) (λ taken. Ok (taken_step h frame.arbitration_id (says h frame) reading))
