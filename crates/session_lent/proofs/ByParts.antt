@@ -1,11 +1,13 @@
--- The parts of a session stepped and put back where they stood: a frame taken into the session. Assumes nothing.
+-- A frame's step, put back where its parts stood: a frame taken into the session. Assumes nothing.
 use Prim.Native.Nat.{ℕ}
 use mathlib.Core.Path.{◌≡◌, refl, sym, ap, ◌∙◌}
 use mathlib.Core.Bool.{true}
-use mathlib.Core.List.{List}
-use lib.ListN.{get_or, set}
-use lib.Seq.{set-get_or}
+use lib.ListN.{set}
+use Rattle.motor_core.proofs.Turned.{clash}
+use Rattle.motor_core.specs.Outcome.{and_then}
+use Rattle.motor_core.specs.declared.error.Refusal.{Refusal}
 use Rattle.motor_core.specs.declared.bus.CanFrame.{CanFrame}
+use Rattle.std.specs.Prelude.{Result, Ok, Err}
 use Rattle.time.specs.declared.Instant.{Instant}
 use Rattle.registers.specs.Registers.{known}
 use Rattle.registers.proofs.Below.{known_below}
@@ -14,51 +16,65 @@ use Rattle.protocol_frame.specs.Layout.{d}
 use Rattle.protocol_received.specs.declared.Received.{Received}
 use Rattle.protocol_received.specs.declared.Received.TheVariants.{Reply, Ack, Feedback}
 use Rattle.protocol_received.proofs.OfRegister.{of_register}
-use Rattle.state_cache.specs.Cache.{empty, held, slot_place}
-use Rattle.state_cache.specs.declared.Slot.{Slot}
+use Rattle.state_cache.specs.Cache.{slot_place}
+use Rattle.state_cache.specs.declared.Entry.TheVariants.{Held}
 use Rattle.state_cache.proofs.Places.{own_slot}
-use Rattle.session.specs.declared.Head.{Head}
 use Rattle.session.specs.declared.Session.{Session}
-use Rattle.session_frame.specs.Frame.{frame_outcome, head_at, head_after, with_received, says, take_by, take_frame, taken_step, step_by, frame_step}
-use Rattle.session_frame.specs.declared.Kept.{Kept}
-use Rattle.session_frame.specs.declared.FrameOutcome.{FrameOutcome}
-use Rattle.session_frame.specs.declared.FrameOutcome.TheVariants.{Taken, Refused}
+use Rattle.session_frame.specs.Frame.{FrameOutcome, frame_outcome, head_after, with_received, says, take_by, take_frame, taken_step, frame_step}
 use Rattle.session_frame.specs.declared.FrameStep.{FrameStep}
 use Rattle.session_frame.specs.declared.AfterFrame.{AfterFrame}
-use Rattle.session_lent.specs.Lent.{frame_place, reply_with, ack_with, parts_of, parts_step, parts_at, put_back}
-use Rattle.session_lent.specs.declared.Parts.{Parts}
+use Rattle.session_frame.specs.declared.Kept.{Kept}
+use Rattle.session_lent.specs.Lent.{put_kept, put_back}
 use Rattle.session.specs.Session.{with_head, with_replies, with_acks}
 
--- a slot that is put back as it was
-same_slot : (slots : List Slot) (place : ℕ) → set slots place (get_or slots place empty) ≡ slots
-same_slot slots place = set-get_or slots place empty
-
 -- a known register's place is its number
-place_of : (rid n : ℕ) → rid ≡ n → known n ≡ true → slot_place n ≡ rid
-place_of rid n e k = own_slot n (slot_place n) refl (known_below n k) ∙ sym e
+place_of : (rid n : ℕ) → rid ≡ n → known n ≡ true → slot_place rid ≡ rid
+place_of rid n e k = ap slot_place e ∙ own_slot n (slot_place n) refl (known_below n k) ∙ sym e
 
-module _ (s : Session) (place : ℕ) where
-  abbrev back : FrameStep → AfterFrame
-  back step = record { session = put_back s place (parts_of step (get_or s.replies place empty) (get_or s.acks place empty)); outcome = step.outcome }
-
-  abbrev with_slots : Head → List Slot → List Slot → Session
-  with_slots head replies acks = with_acks (with_replies (with_head s head) replies) acks
-
-  back_taken : (id n : ℕ) (r : Received) (t : Instant) → OfRegister r n → place ≡ slot_place n → back (taken_step s.head id r t) ≡ record { session = with_received s id r t; outcome = Taken }
-  back_taken id n (Reply rid v) t (e, k) at = λ i. record { session = with_slots (head_at s.head s.head.feedback t) (set s.replies ((at ∙ place_of rid n e k) i) (held v t)) (same_slot s.acks place i); outcome = Taken }
-  back_taken id n (Ack rid v) t (e, k) at = λ i. record { session = with_slots (head_at s.head s.head.feedback t) (same_slot s.replies place i) (set s.acks ((at ∙ place_of rid n e k) i) (held v t)); outcome = Taken }
-  back_taken id n (Feedback f) t of at = λ i. record { session = with_slots (head_after s.head id (Feedback f) t) (same_slot s.replies place i) (same_slot s.acks place i); outcome = Taken }
+module _ (s : Session) where
+  back_taken : (id n : ℕ) (r : Received) (t : Instant) → OfRegister r n → put_back s (taken_step s.head id r t) ≡ with_received s id r t
+  back_taken id n (Reply rid v) t (e, k) = ap (λ (p : ℕ). with_replies (with_head s (head_after s.head id (Reply rid v) t)) (set s.replies p (Held v t))) (place_of rid n e k)
+  back_taken id n (Ack rid v) t (e, k) = ap (λ (p : ℕ). with_acks (with_head s (head_after s.head id (Ack rid v) t)) (set s.acks p (Held v t))) (place_of rid n e k)
+  back_taken id n (Feedback f) t of = refl
 
 module _ (s : Session) (frame : CanFrame) (t : Instant) where
-  pub by_parts : (let parts = parts_at s (frame_place frame) frame t in record { session = put_back s (frame_place frame) parts; outcome = parts.outcome }) ≡ take_frame s frame t
+  -- a step that was made, put back
+  pub lent_taken : (step : FrameStep) → frame_step s.head frame t ≡ Ok step → take_frame s frame t ≡ record { session = put_back s step; outcome = Ok tt }
   unfolding take_frame frame_step
-  by_parts = go (frame_outcome s.head frame t)
+  lent_taken step = go (frame_outcome s.head frame t)
     where
-      go : (o : FrameOutcome) → back s (frame_place frame) (step_by o s.head frame t) ≡ record { session = take_by o s frame t; outcome = o }
-      go Taken = back_taken s (frame_place frame) frame.arbitration_id (d frame.«data» 3) (says s.head frame) t (of_register s.head.limits frame.«data») refl
-      go (Refused number) = λ i. record { session = with_slots s (frame_place frame) s.head (same_slot s.replies (frame_place frame) i) (same_slot s.acks (frame_place frame) i); outcome = Refused number }
+      whole : FrameStep
+      whole = taken_step s.head frame.arbitration_id (says s.head frame) t
 
--- the parts of a step, by what it keeps
-pub parts_by : (h : Head) (reply ack : Slot) (frame : CanFrame) (t : Instant) (step : FrameStep) (kept : Kept) → step ≡ frame_step h frame t → step.kept ≡ kept
-    → ◌≡◌ {A = Parts} (record { head = step.head; reply = reply_with kept reply; ack = ack_with kept ack; outcome = step.outcome }) (parts_step h reply ack frame t)
-parts_by h reply ack frame t step kept e k = (λ i. record { head = step.head; reply = reply_with (sym k i) reply; ack = ack_with (sym k i) ack; outcome = step.outcome }) ∙ ap (λ (x : FrameStep). parts_of x reply ack) e
+      the_same : (x : FrameStep) → ◌≡◌ {A = Result FrameStep Refusal} (Ok x) (Ok step) → x ≡ step
+      the_same x h = cc
+
+      go : (o : FrameOutcome) → and_then o (λ taken. Ok whole) ≡ Ok step → ◌≡◌ {A = AfterFrame} (record { session = take_by o s frame t; outcome = o }) (record { session = put_back s step; outcome = Ok tt })
+      go (Ok taken) h = λ i. record { session = (sym (back_taken s frame.arbitration_id (d frame.«data» 3) (says s.head frame) t (of_register s.head.limits frame.«data»)) ∙ ap (put_back s) (the_same whole h)) i; outcome = Ok tt }
+      go (Err refusal) h = absurd (clash (cc))
+
+  -- one that was refused
+  pub lent_refused : (refusal : Refusal) → frame_step s.head frame t ≡ Err refusal → take_frame s frame t ≡ record { session = s; outcome = Err refusal }
+  unfolding take_frame frame_step
+  lent_refused refusal = go (frame_outcome s.head frame t)
+    where
+      the_same : (x : Refusal) → ◌≡◌ {A = Result FrameStep Refusal} (Err x) (Err refusal) → x ≡ refusal
+      the_same x h = cc
+
+      go : (o : FrameOutcome) → and_then o (λ taken. Ok (taken_step s.head frame.arbitration_id (says s.head frame) t)) ≡ Err refusal → ◌≡◌ {A = AfterFrame} (record { session = take_by o s frame t; outcome = o }) (record { session = s; outcome = Err refusal })
+      go (Ok taken) h = absurd (clash (cc))
+      go (Err x) h = λ i. record { session = s; outcome = Err (the_same x h i) }
+
+-- as the code comes to it: r is what the step gave, k what it keeps
+module _ (s : Session) (frame : CanFrame) (t : Instant) (r : Result FrameStep Refusal) (gave : r ≡ frame_step s.head frame t) where
+  pub taken_outcome : (step : FrameStep) → r ≡ Ok step → Ok tt ≡ (take_frame s frame t).outcome
+  taken_outcome step e = ap (λ (a : AfterFrame). a.outcome) (sym (lent_taken s frame t step (sym gave ∙ e)))
+
+  pub taken_session : (step : FrameStep) (k : Kept) → r ≡ Ok step → step.kept ≡ k → put_kept (with_head s step.head) k ≡ (take_frame s frame t).session
+  taken_session step k e kept = ap (put_kept (with_head s step.head)) (sym kept) ∙ ap (λ (a : AfterFrame). a.session) (sym (lent_taken s frame t step (sym gave ∙ e)))
+
+  pub refused_outcome : (refusal : Refusal) → r ≡ Err refusal → Err refusal ≡ (take_frame s frame t).outcome
+  refused_outcome refusal e = ap (λ (a : AfterFrame). a.outcome) (sym (lent_refused s frame t refusal (sym gave ∙ e)))
+
+  pub refused_session : (refusal : Refusal) → r ≡ Err refusal → s ≡ (take_frame s frame t).session
+  refused_session refusal e = ap (λ (a : AfterFrame). a.session) (sym (lent_refused s frame t refusal (sym gave ∙ e)))

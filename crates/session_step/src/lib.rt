@@ -2,32 +2,33 @@
 // looks at.
 #![tactic(auto)]
 
-ghost use Rattle.std.specs.Prelude.{◌≡◌};
+ghost use Rattle.std.specs.Prelude.{◌≡◌, Some};
 ghost use Rattle.session_step.specs.Parts as Spec;
 
-use motor_core::error::{NOT_WANTED, READING};
-use run_machine::{Machine, RunResult, machine_want};
-use run_step::{Next, machine_step};
+use motor_core::error::Refusal;
+use protocol_frame::Command;
+use run_machine::{Machine, Outcome, RunResult, machine_want};
+use run_step::machine_step;
 use run_want::message::{message_data, message_id};
+use run_want::step::{Step, Stepped};
 use run_want::{Answer, Want, fits};
-use session::{Head, Phase, Run};
+use session::Head;
 use state_cache::Entry;
 use time::{Duration, Instant, accepts_reading};
 
-// What the caller is to do next; a send by its arbitration id and data.
+// What the caller is to do next.
 #[derive(Clone, Copy)]
 pub enum Wanted {
     Clock,
-    Send(u32, u64),
+    Send(Command),
     Sleep(Duration),
 }
 
-// What a start or an answer returns: what the run wants, or its result, or the number of a refusal.
+// What a start or an answer returns if it is not refused: what the run wants, or its result.
 #[derive(Clone, Copy)]
 pub enum Told {
     Want(Wanted),
     Result(RunResult),
-    Refused(u8),
 }
 
 // The small parts after an answer.
@@ -35,7 +36,7 @@ pub enum Told {
 pub struct AnswerStep {
     pub told: Told,
     pub head: Head,
-    pub run: Run,
+    pub run: Option<Machine>,
 }
 
 // A want in the caller's terms: a send by its frame.
@@ -44,12 +45,10 @@ pub fn caller_want(head: Head, want: Want) -> Wanted
 {
     match want {
         Want::Clock => Wanted::Clock,
-        Want::Send(message) => {
-            Wanted::Send(
-                message_id(head.motor_id, message),
-                message_data(head.motor_id, head.limits, message),
-            )
-        }
+        Want::Send(message) => Wanted::Send(Command {
+            arbitration_id: message_id(head.motor_id, message),
+            data: message_data(head.motor_id, head.limits, message),
+        }),
         Want::Sleep(length) => Wanted::Sleep(length),
     }
 }
@@ -59,8 +58,7 @@ fn accepts_answer(last: Instant, answer: Answer) -> bool
 {
     match answer {
         Answer::Reading(reading) => accepts_reading(last, reading),
-        Answer::Send(_) => true,
-        Answer::Slept => true,
+        Answer::Send(_) | Answer::Slept => true,
     }
 }
 
@@ -68,88 +66,41 @@ fn with_reading(head: Head, answer: Answer) -> Head
     ensures { result ≡ Spec.with_reading head answer }
 {
     match answer {
-        Answer::Reading(reading) => {
-            let mut head = head;
-            head.last = reading;
-            head
-        }
-        Answer::Send(_) => head,
-        Answer::Slept => head,
+        Answer::Reading(last) => Head { last, ..head },
+        Answer::Send(_) | Answer::Slept => head,
     }
 }
 
-fn told_after(head: Head, next: Next) -> Told
-    ensures { result ≡ Spec.told_after head next }
-{
-    match next {
-        Next::Goes(machine) => Told::Want(caller_want(head, machine_want(machine))),
-        Next::Ends(result) => Told::Result(result),
-    }
-}
-
-fn run_after(next: Next) -> Run
-    ensures { result ≡ Spec.run_after next }
-{
-    match next {
-        Next::Goes(machine) => Run {
-            phase: Phase::Open(machine),
-        },
-        Next::Ends(_) => Run {
-            phase: Phase::Closed,
-        },
-    }
-}
-
-fn stepped(head: Head, next: Next) -> AnswerStep
+fn stepped(head: Head, next: Stepped<Machine, Outcome>) -> AnswerStep
     ensures { result ≡ Spec.stepped head next }
 {
-    AnswerStep {
-        told: told_after(head, next),
-        head,
-        run: run_after(next),
-    }
-}
-
-fn refused(head: Head, run: Run, number: u8) -> AnswerStep
-    ensures { result ≡ Spec.refused head run number }
-{
-    AnswerStep {
-        told: Told::Refused(number),
-        head,
-        run,
-    }
-}
-
-fn machine_answer(
-    head: Head,
-    entry: Entry,
-    run: Run,
-    machine: Machine,
-    answer: Answer,
-) -> AnswerStep
-    ensures { result ≡ Spec.machine_answer head entry run machine answer }
-{
-    if !fits(machine_want(machine), answer) {
-        return refused(head, run, NOT_WANTED);
-    }
-    if !accepts_answer(head.last, answer) {
-        return refused(head, run, READING);
-    }
-    let feedback = head.feedback;
-    let latest = feedback.latest;
-    stepped(
-        with_reading(head, answer),
-        machine_step(latest, entry, machine, answer),
-    )
+    let (told, run) = match next {
+        Ok(Step::Goes(machine)) => (
+            Told::Want(caller_want(head, machine_want(machine))),
+            Some(machine),
+        ),
+        Ok(Step::Ends(outcome)) => (Told::Result(Ok(outcome)), None),
+        Err(failure) => (Told::Result(Err(failure)), None),
+    };
+    AnswerStep { told, head, run }
 }
 
 // Answers what the run wants, in the small parts. `entry` is what the run's place holds.
-pub fn answer_step(head: Head, entry: Entry, run: Run, answer: Answer) -> AnswerStep
+pub fn answer_step(
+    head: Head,
+    entry: Entry,
+    run: Option<Machine>,
+    answer: Answer,
+) -> Result<AnswerStep, Refusal>
     ensures { result ≡ Spec.answer_step head entry run answer }
 {
-    let phase = run.phase;
-    match phase {
-        Phase::Closed => refused(head, run, NOT_WANTED),
-        Phase::Open(machine) => machine_answer(head, entry, run, machine, answer),
+    let machine = run.ok_or(Refusal::NotWanted)?;
+    if !fits(machine_want(machine), answer) {
+        return Err(Refusal::NotWanted);
     }
+    if !accepts_answer(head.last, answer) {
+        return Err(Refusal::Reading);
+    }
+    let next = machine_step(head.feedback.latest, entry, machine, answer);
+    Ok(stepped(with_reading(head, answer), next))
 }
