@@ -1,29 +1,27 @@
 -- What a start or an answer leaves of a session, by what it returns, for laws and claims. Definitions only.
-use Rattle.std.specs.Prelude.{◌≡◌}
+use Rattle.std.specs.Prelude.{◌≡◌, Option, Some, None, Result, Ok, Err}
+use Rattle.motor_core.specs.declared.error.Refusal.{Refusal}
 use Rattle.run_machine.specs.Machine.{machine_want}
 use Rattle.run_machine.specs.declared.Machine.{Machine}
-use Rattle.session.specs.Session.{closed}
 use Rattle.session.specs.declared.Head.{Head}
-use Rattle.session.specs.declared.Run.{Run}
-use Rattle.session.specs.declared.Phase.TheVariants.{Open}
 use Rattle.session.specs.declared.Session.{Session}
 use Rattle.session_step.specs.Parts.{caller_want}
 use Rattle.session_step.specs.declared.Told.{Told}
-use Rattle.session_step.specs.declared.Told.TheVariants.{Want, Result, Refused}
+use Rattle.session_step.specs.declared.Told.TheVariants as Told
 use Rattle.session_step.specs.declared.Wanted.{Wanted}
 use Rattle.session_answer.specs.declared.AfterCall.{AfterCall}
 
 -- an open run whose machine wants just what was returned
-pub record Wants (h : Head) (want : Wanted) (run : Run) : Type 0 where
+pub record Wants (h : Head) (want : Wanted) (run : Option Machine) : Type 0 where
   pub machine : Machine
-  pub is_open : run ≡ record { phase = Open machine }
+  pub is_open : run ≡ Some machine
   pub tells : want ≡ caller_want h (machine_want machine)
 
 -- a want leaves that run open, a result none, a refusal the session as it was
-abbrev pub Follows : Session → Told → Session → Type 0
-Follows before (Want want) s = Wants s.head want s.run
-Follows before (Result result) s = s.run ≡ closed
-Follows before (Refused number) s = s ≡ before
+abbrev pub Follows : Session → Result Told Refusal → Session → Type 0
+Follows before (Ok (Told.Want want)) s = Wants s.head want s.run
+Follows before (Ok (Told.Result result)) s = s.run ≡ None
+Follows before (Err refusal) s = s ≡ before
 
 abbrev pub ToldTruly : Session → AfterCall → Type 0
 ToldTruly before turn = Follows before turn.told turn.session

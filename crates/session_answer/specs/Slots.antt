@@ -2,7 +2,6 @@
 use Rattle.std.specs.Prelude.{ℕ, cond, ltb}
 use Rattle.state_cache.specs.declared.Entry.{Entry}
 use Rattle.state_cache.specs.declared.Entry.TheVariants.{Empty}
-use Rattle.state_cache.specs.declared.Slot.{Slot}
 use Rattle.state_cache.specs.declared.Place.{Place}
 use Rattle.state_cache.specs.declared.Place.TheVariants.{Nowhere, Reply, Ack}
 
@@ -11,11 +10,11 @@ place_register Nowhere = 0
 place_register (Reply rid) = rid
 place_register (Ack rid) = rid
 
-abbrev pub picked : Place → Slot → Slot → Entry
+abbrev pub picked : Place → Entry → Entry → Entry
 picked Nowhere reply ack = Empty
-picked (Reply rid) reply ack = reply.entry
-picked (Ack rid) reply ack = ack.entry
+picked (Reply rid) reply ack = reply
+picked (Ack rid) reply ack = ack
 
 -- a number from 82 on has no slot
-abbrev pub entry_between : Place → Slot → Slot → Entry
+abbrev pub entry_between : Place → Entry → Entry → Entry
 entry_between place reply ack = cond (ltb (place_register place) 82) (picked place reply ack) Empty

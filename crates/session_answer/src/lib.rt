@@ -6,25 +6,26 @@ ghost use Rattle.std.specs.Prelude.{◌≡◌};
 ghost use Rattle.session_answer.specs.Answer as Spec;
 ghost use Rattle.session_answer.specs.Slots.{place_register, entry_between};
 
-use run_machine::machine_place;
+use motor_core::error::Refusal;
+use run_machine::{Machine, machine_place};
 use run_want::Answer;
-use session::{Phase, Run, Session};
+use session::Session;
 use session_step::{Told, answer_step};
-use state_cache::{Entry, Place, Slot, slot_place};
+use state_cache::{Entry, Place, slot_place};
 
+// The session goes by value, so that it stands beside the answer.
 #[derive(Clone, Copy)]
 pub struct AfterCall {
     pub session: Session,
-    pub told: Told,
+    pub told: Result<Told, Refusal>,
 }
 
-fn run_place(run: Run) -> Place
-    ensures { result ≡ Spec.phase_place run.phase }
+fn run_place(run: Option<Machine>) -> Place
+    ensures { result ≡ Spec.run_place run }
 {
-    let phase = run.phase;
-    match phase {
-        Phase::Closed => Place::Nowhere,
-        Phase::Open(machine) => machine_place(machine),
+    match run {
+        None => Place::Nowhere,
+        Some(machine) => machine_place(machine),
     }
 }
 
@@ -33,22 +34,18 @@ fn place_register(place: Place) -> u8
 {
     match place {
         Place::Nowhere => 0,
-        Place::Reply(rid) => rid,
-        Place::Ack(rid) => rid,
+        Place::Reply(rid) | Place::Ack(rid) => rid,
     }
 }
 
 // The entry at a place. `reply` and `ack` are the two slots of the place's register.
-fn entry_between(place: Place, reply: Slot, ack: Slot) -> Entry
+fn entry_between(place: Place, reply: Entry, ack: Entry) -> Entry
     ensures { result ≡ entry_between place reply ack }
 {
-    if place_register(place) >= 82 {
-        return Entry::Empty;
-    }
     match place {
-        Place::Nowhere => Entry::Empty,
-        Place::Reply(_) => reply.entry,
-        Place::Ack(_) => ack.entry,
+        Place::Reply(rid) if rid < 82 => reply,
+        Place::Ack(rid) if rid < 82 => ack,
+        Place::Nowhere | Place::Reply(_) | Place::Ack(_) => Entry::Empty,
     }
 }
 
@@ -60,18 +57,19 @@ pub fn answer_run(mut session: Session, answer: Answer) -> AfterCall
 {
     let place = run_place(session.run);
     let at = slot_place(place_register(place));
-    let reply = session.replies[at];
-    let ack = session.acks[at];
-    let step = answer_step(
-        session.head,
-        entry_between(place, reply, ack),
-        session.run,
-        answer,
-    );
-    let head = step.head;
-    let run = step.run;
-    let told = step.told;
-    session.head = head;
-    session.run = run;
-    AfterCall { session, told }
+    let entry = entry_between(place, session.replies[at], session.acks[at]);
+    match answer_step(session.head, entry, session.run, answer) {
+        Ok(step) => {
+            session.head = step.head;
+            session.run = step.run;
+            AfterCall {
+                session,
+                told: Ok(step.told),
+            }
+        }
+        Err(refusal) => AfterCall {
+            session,
+            told: Err(refusal),
+        },
+    }
 }
