@@ -1,7 +1,7 @@
 -- The marked bench cases hold: the checker computes each definition. Assumes nothing.
+use Rattle.std.specs.Prelude.{Some}
 use Prim.Native.Nat.{◌≤◌, ◌^◌, zero-le}
 use mathlib.Core.Path.{◌≡◌, refl, ap, ◌∙◌}
-use mathlib.Core.Option.{some}
 use lib.Ieee.{round, div, of_int, neg, le, sub, mul, add, to_unsigned}
 use Rattle.float.specs.Float.{clip}
 use Rattle.motor_core.specs.Model.{limits_of, limit_accepted}
@@ -46,13 +46,13 @@ register_stored : (reading : Instant) → reading.0 ≤ 2 ^ 62 → slot_of (take
 unfolding fresh registers elem data_type_of value_of class received register_value
 register_stored reading h =
     reply_after_frame session (on_bus ten_is_one) reading 10 refl
-    ∙ ap (λ (o : FrameOutcome). slot_with (of_register 10 (if_taken o (some (10, UInt32 1)))) reading (slot_of session.replies 10)) (taken (on_bus ten_is_one) reading h)
+    ∙ ap (λ (o : FrameOutcome). slot_with (of_register 10 (if_taken o (Some (10, UInt32 1)))) reading (slot_of session.replies 10)) (taken (on_bus ten_is_one) reading h)
 
 record_stored : (reading : Instant) → reading.0 ≤ 2 ^ 62 → (take_frame session (on_bus at_minimum) reading).session.head.feedback ≡ record { latest = Snapshot (first_record reading); sequence = 1 }
 unfolding fresh round div of_int neg sub mul add registers elem uint_to_float class feedback_of received status_name
 record_stored reading h =
     record_after_frame session (on_bus at_minimum) reading
-    ∙ ap (λ (o : FrameOutcome). record_with (if_taken o (some (first_record reading).state)) reading session.head.feedback) (taken (on_bus at_minimum) reading h)
+    ∙ ap (λ (o : FrameOutcome). record_with (if_taken o (Some (first_record reading).state)) reading session.head.feedback) (taken (on_bus at_minimum) reading h)
 
 pub marked : Marked
 unfolding round div of_int neg le sub mul add to_unsigned clip limits_of limit_accepted registers elem data_type_of value_of float_to_uint uint_to_float packed_onto little_endian bytes mit_cmd mit_data frame_for force_pos_data scaled register_read_data addressed class feedback_of decoded received register_value status_name queryable query_accepted magnitude within matches keep matching_names answer damiao_models limits_by_name ascii same from_model from_limits fresh

@@ -1,9 +1,9 @@
 -- Each answer takes from what a phase may still want at least the want that it answers; so does a whole run. Once for every way of weighing. Assumes nothing.
+use Rattle.std.specs.Prelude.{None, Option, Some, Result, Ok, Err, option_map}
 use Prim.Native.Nat.{ℕ, zero, suc, ◌+◌, ◌≤◌, min}
 use mathlib.Core.Path.{◌≡◌, refl}
 use mathlib.Core.Bool.{Bool, true, false, cond}
 use mathlib.Core.List.{List, [], ◌∷◌}
-use mathlib.Core.Option.{Option, none, some}
 use native.Mathlib.Omega.{arith}
 use lib.Dec.{eqb}
 use Rattle.time.specs.Time.{millis}
@@ -13,8 +13,6 @@ use Rattle.registers.specs.Value.{same_value, of_type}
 use Rattle.registers.specs.declared.RegisterDataType.{RegisterDataType}
 use Rattle.registers.specs.declared.RegisterDataType.TheVariants.{Float, UInt32}
 use Rattle.registers.specs.declared.RegisterValue.{RegisterValue}
-use Rattle.state_feedback.specs.declared.Latest.{Latest}
-use Rattle.state_feedback.specs.declared.Latest.TheVariants as Latest
 use Rattle.state_feedback.specs.declared.MotorFeedbackState.{MotorFeedbackState}
 use Rattle.state_cache.specs.declared.Entry.{Entry}
 use Rattle.state_cache.specs.declared.Entry.TheVariants.{Empty, Held}
@@ -22,11 +20,9 @@ use Rattle.run_want.specs.Want.{reading_of, send_outcome}
 use Rattle.run_want.specs.declared.Answer.{Answer}
 use Rattle.run_want.specs.declared.Failure.{Failure}
 use Rattle.run_want.specs.declared.Failure.TheVariants.{Timeout, Mismatch, WrongType, SendFailed}
-use Rattle.run_want.specs.declared.SendOutcome.{SendOutcome}
-use Rattle.run_want.specs.declared.SendOutcome.TheVariants as SendOutcome
 use Rattle.run_want.specs.declared.message.Message.{Message}
 use Rattle.run_want.specs.declared.message.Message.TheVariants.{ReadRegister, RequestFeedback}
-use Rattle.run_wait.specs.Ask.{ask_want, ask_sent, ask_waited, ask_step}
+use Rattle.run_wait.specs.Ask.{ask_want, ask_waited, ask_step}
 use Rattle.run_wait.specs.Look.{fresh_entry, fresh_record}
 use Rattle.run_wait.specs.Wait.{late, wait_want, wait_step}
 use Rattle.run_wait.specs.declared.Wait.{Wait}
@@ -35,67 +31,53 @@ use Rattle.run_wait.specs.declared.Waited.{Waited}
 use Rattle.run_wait.specs.declared.Waited.TheVariants as Waited
 use Rattle.run_wait.specs.declared.ask.Ask.{Ask}
 use Rattle.run_wait.specs.declared.ask.Ask.TheVariants as Ask
-use Rattle.run_wait.specs.declared.ask.Asked.{Asked}
-use Rattle.run_wait.specs.declared.ask.Asked.TheVariants as Asked
 use Rattle.run_read.specs.Read.{reply_found, read_by, get_by, get_step}
-use Rattle.run_read.specs.declared.ReadNext.{ReadNext}
-use Rattle.run_read.specs.declared.ReadNext.TheVariants as Read
 use Rattle.run_write.specs.Ack.{ack_timeout, ack_want, ack_waited, ack_step}
 use Rattle.run_write.specs.Ack as AckSpec
-use Rattle.run_write.specs.Write.{write_want, write_sent, again, write_waited, write_step}
+use Rattle.run_write.specs.Write.{write_want, again, write_waited, write_step}
 use Rattle.run_write.specs.declared.ack.AckWait.{AckWait}
 use Rattle.run_write.specs.declared.ack.AckWait.TheVariants as AckWait
-use Rattle.run_write.specs.declared.ack.AckNext.{AckNext}
-use Rattle.run_write.specs.declared.ack.AckNext.TheVariants as Ack
 use Rattle.run_write.specs.declared.Write.{Write}
 use Rattle.run_write.specs.declared.Write.TheVariants as Write
-use Rattle.run_write.specs.declared.WriteNext.{WriteNext}
-use Rattle.run_write.specs.declared.WriteNext.TheVariants as Written
 use Rattle.run_fresh.specs.State.{record_found, state_by, state_step}
-use Rattle.run_fresh.specs.Store.{state_timeout, store_want, by_status, store_asked, store_sent, store_step}
-use Rattle.run_fresh.specs.declared.StateNext.{StateNext}
-use Rattle.run_fresh.specs.declared.StateNext.TheVariants as State
+use Rattle.run_fresh.specs.Store.{state_timeout, store_want, by_status, store_asked, store_step}
 use Rattle.run_fresh.specs.declared.store.Store.{Store}
 use Rattle.run_fresh.specs.declared.store.Store.TheVariants as Store
-use Rattle.run_fresh.specs.declared.store.StoreNext.{StoreNext}
-use Rattle.run_fresh.specs.declared.store.StoreNext.TheVariants as Stored
 use Rattle.protocol_hold.specs.declared.ControlMode.{ControlMode}
 use Rattle.protocol_hold.specs.declared.ControlMode.TheVariants.{Mit, PosVel, Vel, ForcePos}
 use Rattle.switch_stage.specs.Stage.{mode_value, switch_want}
 use Rattle.switch_prepare.specs.Prepare.{prepare, after_hold_read, cleared, hold_timed}
-use Rattle.switch_prepare.specs.declared.PrepareNext.{PrepareNext}
-use Rattle.switch_prepare.specs.declared.PrepareNext.TheVariants as Prepare
 use Rattle.switch_finish.specs.Finish.{finish, held}
-use Rattle.switch_finish.specs.declared.FinishNext.{FinishNext}
-use Rattle.switch_finish.specs.declared.FinishNext.TheVariants as Finish
+use Rattle.switch_finish.specs.declared.Finishing.{Finishing}
+use Rattle.switch_finish.specs.declared.Finishing.TheVariants as Finish
 use Rattle.switch_write.specs.WriteMode.{after_prepare, after_mode_write, after_finish, settled}
 use Rattle.switch_step.specs.Switch.{with_error, not_yet, after_mode_read, mode_timed, switch_step}
-use Rattle.switch_time.specs.TimeLeft.{shorter, budget_cap, mode_read_cap, hold_read_cap, remaining_until, capped, sleep_up_to_reserving}
-use Rattle.switch_time.specs.declared.TimeLeft.{TimeLeft}
-use Rattle.switch_time.specs.declared.TimeLeft.TheVariants as Left
+use Rattle.switch_time.specs.TimeLeft.{shorter, budget_cap, mode_read_cap, hold_read_cap, remaining_until, sleep_up_to_reserving}
 use Rattle.switch_stage.specs.declared.ModeRead.{ModeRead}
 use Rattle.switch_stage.specs.declared.ModeRead.TheVariants.{First, Verify}
 use Rattle.switch_stage.specs.declared.Progress.{Progress}
 use Rattle.switch_stage.specs.declared.Stage.TheVariants as Stage
 use Rattle.switch_stage.specs.declared.Switch.{Switch}
 use Rattle.switch_stage.specs.declared.Switch.TheVariants as Switch
-use Rattle.switch_stage.specs.declared.SwitchNext.{SwitchNext}
-use Rattle.switch_stage.specs.declared.SwitchNext.TheVariants as Switched
 use Rattle.run_machine.specs.Machine.{machine_want}
-use Rattle.run_step.specs.Step.{after_read, after_write, after_state, after_store, after_switch, machine_step}
+use Rattle.run_step.specs.Step.{machine_step}
+use Rattle.run_machine.specs.declared.Outcome.{Outcome}
+use Rattle.run_machine.specs.declared.Outcome.TheVariants.{Done, Value, State}
+use Rattle.run_want.specs.Step.{Stepped, goes, ends, map_stepped}
+use Rattle.run_want.specs.declared.step.Step.TheVariants.{Goes, Ends}
+use Rattle.state_feedback.specs.declared.FeedbackSnapshot.{FeedbackSnapshot}
+use Rattle.motor_core.specs.Outcome.{and_then}
 use Rattle.run_machine.specs.declared.Machine.{Machine}
 use Rattle.run_machine.specs.declared.Machine.TheVariants.{GetRegister, WriteRegister, RequestFreshState, StoreParameters, EnsureControlMode}
-use Rattle.run_step.specs.declared.Next.{Next}
-use Rattle.run_step.specs.declared.Next.TheVariants.{Goes, Ends}
-use Rattle.law_runs.specs.Budget.{Budget, clearing, weigh, ask_left, asked_left, read_left, state_left, disabling, store_left, stored_left, ack_left, acked_left, more_tries, write_left, written_left, mode_reading, holding, finishing, more_rounds, rounds, preparing, unfound, switch_left, switched_left, machine_left, left}
+use Rattle.law_runs.specs.Budget.{Budget, clearing, stepped_left, weigh, ask_left, asked_left, read_left, state_left, disabling, store_left, stored_left, ack_left, acked_left, more_tries, write_left, written_left, mode_reading, holding, finishing, more_rounds, rounds, preparing, unfound, switch_left, switched_left, machine_left, left}
 use Rattle.law_runs.specs.Clock.{Clocked, known_after, fine, AllFine}
-use Rattle.law_runs.specs.Systems.{still, waiting, acking_on, acking, running_on, running}
+use Rattle.law_runs.specs.Systems.{still, waiting, goes_on, acking, running}
 use Rattle.law_runs.specs.Trace.{Given, System, label, wants_from, total}
 
 module _ {κ : Clocked} (β : Budget κ) where
   -- ---- the wait, by what comes of an answer
 
-  abbrev waited_left : Duration → κ.Known → Waited → ℕ
+  abbrev waited_left : Duration → κ.Known → Waited Wait → ℕ
   waited_left l k (Waited.Goes w) = β.wait_left l k w
   waited_left l k (Waited.Looks o) = β.wait_left l k (Checking o)
   waited_left l k Waited.Late = 0
@@ -114,7 +96,7 @@ module _ {κ : Clocked} (β : Budget κ) where
 
   -- ---- asking
 
-  asked_waited : (m : Message) (l : Duration) (k : κ.Known) (x : Waited) → asked_left β m l k (ask_waited x) ≡ waited_left l k x
+  asked_waited : (m : Message) (l : Duration) (k : κ.Known) (x : Waited Wait) → asked_left β m l k (Ok (ask_waited x)) ≡ waited_left l k x
   asked_waited m l k (Waited.Goes w) = refl
   asked_waited m l k (Waited.Looks o) = refl
   asked_waited m l k Waited.Late = refl
@@ -123,9 +105,9 @@ module _ {κ : Clocked} (β : Budget κ) where
   ask_falls m l k Ask.Opening a f = omega (arith, β.opens l (reading_of a))
   ask_falls m l k (Ask.Sending o) a f = go (send_outcome a)
     where
-      go : (x : SendOutcome) → β.send (label m) + asked_left β m l k (ask_sent o x) ≤ β.send (label m) + β.wait_left l k (Checking o)
-      go SendOutcome.Sent = omega arith
-      go (SendOutcome.Failed failure) = omega arith
+      go : (x : Result (Unit {0}) Failure) → β.send (label m) + asked_left β m l k (and_then x (λ sent. Ok (Waited.Looks o))) ≤ β.send (label m) + β.wait_left l k (Checking o)
+      go (Ok sent) = omega arith
+      go (Err failure) = omega arith
   ask_falls m l k (Ask.Waiting w) a f = omega (arith, wait_falls l k w a f, asked_waited m l (known_after κ (wait_want w) a k) (wait_step l w a))
 
   pub ask_covers : (m : Message) (l : Duration) (k : κ.Known) (q : Ask) → weigh β (ask_want m q) ≤ ask_left β m l k q
@@ -135,43 +117,43 @@ module _ {κ : Clocked} (β : Budget κ) where
 
   -- ---- the register read
 
-  read_found : (rid : ℕ) (l : Duration) (k : κ.Known) (o : Instant) (e : Entry) → read_left β rid l k (reply_found o e) ≤ β.wait_left l k (Checking o)
+  read_found : (rid : ℕ) (l : Duration) (k : κ.Known) (o : Instant) (e : Entry) → read_left β rid l k (Ok (reply_found o e)) ≤ β.wait_left l k (Checking o)
   read_found rid l k o Empty = omega arith
   read_found rid l k o (Held value stamp) = omega arith
 
-  read_by_left : (rid : ℕ) (l : Duration) (k : κ.Known) (e : Entry) (x : Asked) → read_left β rid l k (read_by e x) ≤ asked_left β (ReadRegister rid) l k x
-  read_by_left rid l k e (Asked.Goes q) = omega arith
-  read_by_left rid l k e (Asked.Looks o) = read_found rid l k o (fresh_entry o e)
-  read_by_left rid l k e Asked.Late = omega arith
-  read_by_left rid l k e (Asked.Failed failure) = omega arith
+  read_by_left : (rid : ℕ) (l : Duration) (k : κ.Known) (e : Entry) (x : Result (Waited Ask) Failure) → read_left β rid l k (and_then x (read_by e)) ≤ asked_left β (ReadRegister rid) l k x
+  read_by_left rid l k e (Ok (Waited.Goes q)) = omega arith
+  read_by_left rid l k e (Ok (Waited.Looks o)) = read_found rid l k o (fresh_entry o e)
+  read_by_left rid l k e (Ok Waited.Late) = omega arith
+  read_by_left rid l k e (Err failure) = omega arith
 
-  get_by_left : (t : RegisterDataType) (rid : ℕ) (l : Duration) (k : κ.Known) (x : ReadNext) → read_left β rid l k (get_by t x) ≤ read_left β rid l k x
-  get_by_left t rid l k (Read.Goes q) = omega arith
-  get_by_left t rid l k (Read.Got value) = go (of_type value t)
+  get_by_left : (t : RegisterDataType) (rid : ℕ) (l : Duration) (k : κ.Known) (x : Stepped Ask RegisterValue) → read_left β rid l k (and_then x (get_by t)) ≤ read_left β rid l k x
+  get_by_left t rid l k (Ok (Goes q)) = omega arith
+  get_by_left t rid l k (Ok (Ends value)) = go (of_type value t)
     where
-      go : (b : Bool) → read_left β rid l k (cond b (Read.Got value) (Read.Failed WrongType)) ≤ 0
+      go : (b : Bool) → read_left β rid l k (and_then (cond b (Ok value) (Err WrongType)) ends) ≤ 0
       go true = omega arith
       go false = omega arith
-  get_by_left t rid l k (Read.Failed failure) = omega arith
+  get_by_left t rid l k (Err failure) = omega arith
 
   pub get_falls : (t : RegisterDataType) (rid : ℕ) (l : Duration) (k : κ.Known) (e : Entry) (q : Ask) (a : Answer) → fine κ (ask_want (ReadRegister rid) q) a k → weigh β (ask_want (ReadRegister rid) q) + read_left β rid l (known_after κ (ask_want (ReadRegister rid) q) a k) (get_step t l e q a) ≤ ask_left β (ReadRegister rid) l k q
   get_falls t rid l k e q a f =
       let k' = known_after κ (ask_want (ReadRegister rid) q) a k in
-      omega (arith, ask_falls (ReadRegister rid) l k q a f, read_by_left rid l k' e (ask_step l q a), get_by_left t rid l k' (read_by e (ask_step l q a)))
+      omega (arith, ask_falls (ReadRegister rid) l k q a f, read_by_left rid l k' e (ask_step l q a), get_by_left t rid l k' (and_then (ask_step l q a) (read_by e)))
 
   -- ---- the fresh-state request
 
-  state_found : (l : Duration) (k : κ.Known) (o : Instant) (x : Latest) → state_left β l k (record_found o x) ≤ β.wait_left l k (Checking o)
-  state_found l k o Latest.None = omega arith
-  state_found l k o (Latest.Snapshot s) = omega arith
+  state_found : (l : Duration) (k : κ.Known) (o : Instant) (x : Option FeedbackSnapshot) → state_left β l k (Ok (record_found o x)) ≤ β.wait_left l k (Checking o)
+  state_found l k o None = omega arith
+  state_found l k o (Some s) = omega arith
 
-  state_by_left : (l : Duration) (k : κ.Known) (latest : Latest) (x : Asked) → state_left β l k (state_by latest x) ≤ asked_left β RequestFeedback l k x
-  state_by_left l k latest (Asked.Goes q) = omega arith
-  state_by_left l k latest (Asked.Looks o) = state_found l k o (fresh_record o latest)
-  state_by_left l k latest Asked.Late = omega arith
-  state_by_left l k latest (Asked.Failed failure) = omega arith
+  state_by_left : (l : Duration) (k : κ.Known) (latest : Option FeedbackSnapshot) (x : Result (Waited Ask) Failure) → state_left β l k (and_then x (state_by latest)) ≤ asked_left β RequestFeedback l k x
+  state_by_left l k latest (Ok (Waited.Goes q)) = omega arith
+  state_by_left l k latest (Ok (Waited.Looks o)) = state_found l k o (fresh_record o latest)
+  state_by_left l k latest (Ok Waited.Late) = omega arith
+  state_by_left l k latest (Err failure) = omega arith
 
-  pub state_falls : (l : Duration) (k : κ.Known) (latest : Latest) (q : Ask) (a : Answer) → fine κ (ask_want RequestFeedback q) a k → weigh β (ask_want RequestFeedback q) + state_left β l (known_after κ (ask_want RequestFeedback q) a k) (state_step l latest q a) ≤ ask_left β RequestFeedback l k q
+  pub state_falls : (l : Duration) (k : κ.Known) (latest : Option FeedbackSnapshot) (q : Ask) (a : Answer) → fine κ (ask_want RequestFeedback q) a k → weigh β (ask_want RequestFeedback q) + state_left β l (known_after κ (ask_want RequestFeedback q) a k) (state_step l latest q a) ≤ ask_left β RequestFeedback l k q
   state_falls l k latest q a f =
       omega (arith, ask_falls RequestFeedback l k q a f, state_by_left l (known_after κ (ask_want RequestFeedback q) a k) latest (ask_step l q a))
 
@@ -184,17 +166,17 @@ module _ {κ : Clocked} (β : Budget κ) where
       go true = omega arith
       go false = omega arith
 
-  store_asked_left : (k : κ.Known) (x : StateNext) → store_left β k (store_asked x) ≤ state_left β state_timeout k x + disabling β
-  store_asked_left k (State.Goes q) = omega arith
-  store_asked_left k (State.Got s) = omega (arith, status_left k s)
-  store_asked_left k State.NoState = omega arith
-  store_asked_left k (State.Failed failure) = omega arith
+  store_asked_left : (k : κ.Known) (x : Stepped Ask (Option MotorFeedbackState)) → store_left β k (store_asked x) ≤ state_left β state_timeout k x + disabling β
+  store_asked_left k (Ok (Goes q)) = omega arith
+  store_asked_left k (Ok (Ends (Some s))) = omega (arith, status_left k s)
+  store_asked_left k (Ok (Ends None)) = omega arith
+  store_asked_left k (Err failure) = omega arith
 
-  store_sent_left : (k : κ.Known) (after : Store) (x : SendOutcome) → stored_left β k (store_sent after x) ≤ store_left β k after
-  store_sent_left k after SendOutcome.Sent = omega arith
-  store_sent_left k after (SendOutcome.Failed failure) = omega arith
+  store_sent_left : (k : κ.Known) (after : Store) (x : Result (Unit {0}) Failure) → stored_left β k (and_then x (λ sent. goes after)) ≤ store_left β k after
+  store_sent_left k after (Ok sent) = omega arith
+  store_sent_left k after (Err failure) = omega arith
 
-  pub store_falls : (k : κ.Known) (latest : Latest) (s : Store) (a : Answer) → fine κ (store_want s) a k → weigh β (store_want s) + stored_left β (known_after κ (store_want s) a k) (store_step latest s a) ≤ store_left β k s
+  pub store_falls : (k : κ.Known) (latest : Option FeedbackSnapshot) (s : Store) (a : Answer) → fine κ (store_want s) a k → weigh β (store_want s) + stored_left β (known_after κ (store_want s) a k) (store_step latest s a) ≤ store_left β k s
   store_falls k latest (Store.Asking q) a f =
       let k' = known_after κ (ask_want RequestFeedback q) a k in
       omega (arith, state_falls state_timeout k latest q a f, store_asked_left k' (state_step state_timeout latest q a))
@@ -216,11 +198,11 @@ module _ {κ : Clocked} (β : Budget κ) where
   ack_found k o v Empty = omega arith
   ack_found k o v (Held got stamp) = go (same_value got v)
     where
-      go : (b : Bool) → acked_left β k (cond b Ack.Acked (Ack.Failed (Mismatch got))) ≤ β.wait_left ack_timeout k (Checking o)
+      go : (b : Bool) → acked_left β k (cond b (Ok (Ends tt)) (Err (Mismatch got))) ≤ β.wait_left ack_timeout k (Checking o)
       go true = omega arith
       go false = omega arith
 
-  ack_waited_left : (k : κ.Known) (v : RegisterValue) (e : Entry) (x : Waited) → acked_left β k (ack_waited v e x) ≤ waited_left ack_timeout k x
+  ack_waited_left : (k : κ.Known) (v : RegisterValue) (e : Entry) (x : Waited Wait) → acked_left β k (ack_waited v e x) ≤ waited_left ack_timeout k x
   ack_waited_left k v e (Waited.Goes w) = omega arith
   ack_waited_left k v e (Waited.Looks o) = ack_found k o v (fresh_entry o e)
   ack_waited_left k v e Waited.Late = omega arith
@@ -241,14 +223,14 @@ module _ {κ : Clocked} (β : Budget κ) where
   again_left rid v k zero failure = omega arith
   again_left rid v k (suc n) failure = omega arith
 
-  write_waited_left : (rid : ℕ) (v : RegisterValue) (k : κ.Known) (n : ℕ) (x : AckNext) → written_left β rid v k (write_waited n x) ≤ acked_left β k x + more_tries β rid v n
-  write_waited_left rid v k n (Ack.Goes q) = omega arith
-  write_waited_left rid v k n Ack.Acked = omega arith
-  write_waited_left rid v k n (Ack.Failed failure) = omega (arith, again_left rid v k n failure)
+  write_waited_left : (rid : ℕ) (v : RegisterValue) (k : κ.Known) (n : ℕ) (x : Stepped AckWait (Unit {0})) → written_left β rid v k (write_waited n x) ≤ acked_left β k x + more_tries β rid v n
+  write_waited_left rid v k n (Ok (Goes q)) = omega arith
+  write_waited_left rid v k n (Ok (Ends acked)) = omega arith
+  write_waited_left rid v k n (Err failure) = omega (arith, again_left rid v k n failure)
 
-  write_sent_left : (rid : ℕ) (v : RegisterValue) (k : κ.Known) (n : ℕ) (x : SendOutcome) → written_left β rid v k (write_sent n x) ≤ β.clock + β.opened ack_timeout + more_tries β rid v n
-  write_sent_left rid v k n SendOutcome.Sent = omega arith
-  write_sent_left rid v k n (SendOutcome.Failed failure) = omega arith
+  write_sent_left : (rid : ℕ) (v : RegisterValue) (k : κ.Known) (n : ℕ) (x : Result (Unit {0}) Failure) → written_left β rid v k (and_then x (λ sent. goes (Write.Waiting n AckWait.Opening))) ≤ β.clock + β.opened ack_timeout + more_tries β rid v n
+  write_sent_left rid v k n (Ok sent) = omega arith
+  write_sent_left rid v k n (Err failure) = omega arith
 
   pub write_falls : (rid : ℕ) (v : RegisterValue) (k : κ.Known) (e : Entry) (w : Write) (a : Answer) → fine κ (write_want rid v w) a k → weigh β (write_want rid v w) + written_left β rid v (known_after κ (write_want rid v w) a k) (write_step v e w a) ≤ write_left β rid v k w
   write_falls rid v k e (Write.Sending n) a f = omega (arith, write_sent_left rid v k n (send_outcome a))
@@ -275,36 +257,35 @@ module _ {κ : Clocked} (β : Budget κ) where
   unfound_left mode k (Verify zero) p = omega arith
   unfound_left mode k (Verify (suc n)) p = omega arith
 
-  mode_read_left : (mode : ControlMode) (k : κ.Known) (which : ModeRead) (p : Progress) (l : Duration) (x : ReadNext) → switched_left β mode k (after_mode_read mode which p l x) ≤ read_left β 10 l k x + unfound β mode which
-  mode_read_left mode k which p l (Read.Goes q) = omega arith
-  mode_read_left mode k which p l (Read.Got v) = omega (arith, go (same_value v (mode_value mode)))
+  mode_read_left : (mode : ControlMode) (k : κ.Known) (which : ModeRead) (p : Progress) (l : Duration) (x : Stepped Ask RegisterValue) → switched_left β mode k (after_mode_read mode which p l x) ≤ read_left β 10 l k x + unfound β mode which
+  mode_read_left mode k which p l (Ok (Goes q)) = omega arith
+  mode_read_left mode k which p l (Ok (Ends v)) = omega (arith, go (same_value v (mode_value mode)))
     where
-      go : (b : Bool) → switched_left β mode k (cond b Switched.Done (not_yet mode which (with_error p (Mismatch v)))) ≤ unfound β mode which
+      go : (b : Bool) → switched_left β mode k (cond b (Ok (Ends tt)) (not_yet mode which (with_error p (Mismatch v)))) ≤ unfound β mode which
       go true = omega arith
       go false = unfound_left mode k which (with_error p (Mismatch v))
-  mode_read_left mode k which p l (Read.Failed Timeout) = omega (arith, unfound_left mode k which (with_error p Timeout))
-  mode_read_left mode k which p l (Read.Failed (Mismatch v)) = omega arith
-  mode_read_left mode k which p l (Read.Failed WrongType) = omega arith
-  mode_read_left mode k which p l (Read.Failed SendFailed) = omega arith
+  mode_read_left mode k which p l (Err Timeout) = omega (arith, unfound_left mode k which (with_error p Timeout))
+  mode_read_left mode k which p l (Err (Mismatch v)) = omega arith
+  mode_read_left mode k which p l (Err WrongType) = omega arith
+  mode_read_left mode k which p l (Err SendFailed) = omega arith
 
-  hold_read_left : (mode : ControlMode) (k : κ.Known) (p : Progress) (l : Duration) (x : ReadNext) → switched_left β mode k (after_prepare (after_hold_read p l x)) ≤ read_left β 80 l k x + clearing β Vel + rounds β mode
-  hold_read_left mode k p l (Read.Goes q) = omega arith
-  hold_read_left mode k p l (Read.Got v) = omega arith
-  hold_read_left mode k p l (Read.Failed failure) = omega arith
+  hold_read_left : (mode : ControlMode) (k : κ.Known) (p : Progress) (l : Duration) (x : Stepped Ask RegisterValue) → switched_left β mode k (after_prepare (after_hold_read p l x)) ≤ read_left β 80 l k x + clearing β Vel + rounds β mode
+  hold_read_left mode k p l (Ok (Goes q)) = omega arith
+  hold_read_left mode k p l (Ok (Ends v)) = omega arith
+  hold_read_left mode k p l (Err failure) = omega arith
 
-  finish_left : (mode : ControlMode) (k : κ.Known) (n : ℕ) (p : Progress) (x : FinishNext) → switched_left β mode k (after_finish n p x) ≤ holding β mode + mode_reading β + more_rounds β mode n
+  finish_left : (mode : ControlMode) (k : κ.Known) (n : ℕ) (p : Progress) (x : Finishing) → switched_left β mode k (after_finish n p x) ≤ holding β mode + mode_reading β + more_rounds β mode n
   finish_left mode k n p Finish.Holds = omega arith
   finish_left mode k n p Finish.Done = omega arith
-  finish_left mode k n p (Finish.Failed failure) = omega arith
 
-  written_mode_left : (mode : ControlMode) (k : κ.Known) (n : ℕ) (p : Progress) (x : WriteNext) → switched_left β mode k (after_mode_write n p x) ≤ written_left β 10 (mode_value mode) k x + finishing β mode + mode_reading β + more_rounds β mode n
-  written_mode_left mode k n p (Written.Goes w) = omega arith
-  written_mode_left mode k n p Written.Written = omega arith
-  written_mode_left mode k n p (Written.Failed failure) = omega arith
+  written_mode_left : (mode : ControlMode) (k : κ.Known) (n : ℕ) (p : Progress) (x : Stepped Write (Unit {0})) → switched_left β mode k (after_mode_write n p x) ≤ written_left β 10 (mode_value mode) k x + finishing β mode + mode_reading β + more_rounds β mode n
+  written_mode_left mode k n p (Ok (Goes w)) = omega arith
+  written_mode_left mode k n p (Ok (Ends written)) = omega arith
+  written_mode_left mode k n p (Err failure) = omega arith
 
-  held_left : (mode : ControlMode) (k : κ.Known) (n : ℕ) (p : Progress) (x : SendOutcome) → switched_left β mode k (after_finish n p (held x)) ≤ mode_reading β + more_rounds β mode n
-  held_left mode k n p SendOutcome.Sent = omega arith
-  held_left mode k n p (SendOutcome.Failed failure) = omega arith
+  held_left : (mode : ControlMode) (k : κ.Known) (n : ℕ) (p : Progress) (x : Result (Unit {0}) Failure) → switched_left β mode k (and_then (held x) (after_finish n p)) ≤ mode_reading β + more_rounds β mode n
+  held_left mode k n p (Ok sent) = omega arith
+  held_left mode k n p (Err failure) = omega arith
 
   cleared_left : (mode : ControlMode) (k : κ.Known) (c : ControlMode) (p : Progress) → holding β c + switched_left β mode k (after_prepare (cleared c p)) ≤ clearing β c + rounds β mode
   unfolding more_rounds
@@ -317,17 +298,17 @@ module _ {κ : Clocked} (β : Budget κ) where
   within_cap : (total cap : Duration) (divisor : ℕ) (x : ℕ) → min x (budget_cap total cap divisor).0 ≤ cap.0
   within_cap total cap divisor x = omega arith
 
-  mode_timed_left : (mode : ControlMode) (k : κ.Known) (which : ModeRead) (p : Progress) (total : Duration) (x : TimeLeft) → β.clock + switched_left β mode k (mode_timed which p (capped (mode_read_cap total) x)) ≤ mode_reading β + unfound β mode which
-  mode_timed_left mode k which p total Left.None = omega arith
-  mode_timed_left mode k which p total (Left.Some left) = omega (arith, β.grows (shorter left (mode_read_cap total)) (millis 100) (within_cap total (millis 100) 4 left.0))
+  mode_timed_left : (mode : ControlMode) (k : κ.Known) (which : ModeRead) (p : Progress) (total : Duration) (x : Option Duration) → β.clock + switched_left β mode k (mode_timed which p (option_map (λ left. shorter left (mode_read_cap total)) x)) ≤ mode_reading β + unfound β mode which
+  mode_timed_left mode k which p total None = omega arith
+  mode_timed_left mode k which p total (Some left) = omega (arith, β.grows (shorter left (mode_read_cap total)) (millis 100) (within_cap total (millis 100) 4 left.0))
 
-  hold_timed_left : (mode : ControlMode) (k : κ.Known) (p : Progress) (total : Duration) (x : TimeLeft) → β.clock + switched_left β mode k (after_prepare (hold_timed p (capped (hold_read_cap total) x))) ≤ preparing β mode
-  hold_timed_left mode k p total Left.None = omega arith
-  hold_timed_left mode k p total (Left.Some left) = omega (arith, β.grows (shorter left (hold_read_cap total)) (millis 30) (within_cap total (millis 30) 6 left.0))
+  hold_timed_left : (mode : ControlMode) (k : κ.Known) (p : Progress) (total : Duration) (x : Option Duration) → β.clock + switched_left β mode k (after_prepare (hold_timed p (option_map (λ left. shorter left (hold_read_cap total)) x))) ≤ preparing β mode
+  hold_timed_left mode k p total None = omega arith
+  hold_timed_left mode k p total (Some left) = omega (arith, β.grows (shorter left (hold_read_cap total)) (millis 30) (within_cap total (millis 30) 6 left.0))
 
-  settled_left : (mode : ControlMode) (k : κ.Known) (n : ℕ) (p : Progress) (x : TimeLeft) → β.clock + switched_left β mode k (settled mode n p x) ≤ finishing β mode + mode_reading β + more_rounds β mode n
-  settled_left mode k n p Left.None = omega (arith, finish_left mode k n p (finish mode p.hold_position))
-  settled_left mode k n p (Left.Some l) = omega arith
+  settled_left : (mode : ControlMode) (k : κ.Known) (n : ℕ) (p : Progress) (x : Option Duration) → β.clock + switched_left β mode k (settled mode n p x) ≤ finishing β mode + mode_reading β + more_rounds β mode n
+  settled_left mode k n p None = omega (arith, finish_left mode k n p (finish mode p.hold_position))
+  settled_left mode k n p (Some l) = omega arith
 
   pub switch_falls : (mode : ControlMode) (total : Duration) (k : κ.Known) (e : Entry) (s : Switch) (a : Answer) → fine κ (switch_want mode s) a k → weigh β (switch_want mode s) + switched_left β mode (known_after κ (switch_want mode s) a k) (switch_step mode total e s a) ≤ switch_left β mode k s
   switch_falls mode total k e Switch.Starting a f = omega arith
@@ -361,43 +342,38 @@ module _ {κ : Clocked} (β : Budget κ) where
 
   -- ---- a run's machine
 
-  after_read_left : (t : RegisterDataType) (rid : ℕ) (l : Duration) (k : κ.Known) (x : ReadNext) → left β k (after_read t rid l x) ≡ read_left β rid l k x
-  after_read_left t rid l k (Read.Goes q) = refl
-  after_read_left t rid l k (Read.Got value) = refl
-  after_read_left t rid l k (Read.Failed failure) = refl
+  -- a step in terms of the run leaves what its phase leaves
+  mapped_left : {S T R U : Type 0} (f : S → R) (g : T → U) (h : R → ℕ) (x : Stepped S T) → stepped_left h (map_stepped f g x) ≡ stepped_left (λ s. h (f s)) x
+  mapped_left f g h (Ok (Goes s)) = refl
+  mapped_left f g h (Ok (Ends t)) = refl
+  mapped_left f g h (Err failure) = refl
 
-  after_write_left : (rid : ℕ) (v : RegisterValue) (k : κ.Known) (x : WriteNext) → left β k (after_write rid v x) ≡ written_left β rid v k x
-  after_write_left rid v k (Written.Goes w) = refl
-  after_write_left rid v k Written.Written = refl
-  after_write_left rid v k (Written.Failed failure) = refl
-
-  after_state_left : (l : Duration) (k : κ.Known) (x : StateNext) → left β k (after_state l x) ≡ state_left β l k x
-  after_state_left l k (State.Goes q) = refl
-  after_state_left l k (State.Got s) = refl
-  after_state_left l k State.NoState = refl
-  after_state_left l k (State.Failed failure) = refl
-
-  after_store_left : (k : κ.Known) (x : StoreNext) → left β k (after_store x) ≡ stored_left β k x
-  after_store_left k (Stored.Goes s) = refl
-  after_store_left k Stored.Done = refl
-  after_store_left k (Stored.Failed failure) = refl
-
-  after_switch_left : (mode : ControlMode) (total : Duration) (k : κ.Known) (x : SwitchNext) → left β k (after_switch mode total x) ≡ switched_left β mode k x
-  after_switch_left mode total k (Switched.Goes s) = refl
-  after_switch_left mode total k Switched.Done = refl
-  after_switch_left mode total k (Switched.Failed failure) = refl
-
-  pub falls : (k : κ.Known) (latest : Latest) (e : Entry) (m : Machine) (a : Answer) → fine κ (machine_want m) a k → weigh β (machine_want m) + left β (known_after κ (machine_want m) a k) (machine_step latest e m a) ≤ machine_left β k m
+  pub falls : (k : κ.Known) (latest : Option FeedbackSnapshot) (e : Entry) (m : Machine) (a : Answer) → fine κ (machine_want m) a k → weigh β (machine_want m) + left β (known_after κ (machine_want m) a k) (machine_step latest e m a) ≤ machine_left β k m
   falls k latest e (GetRegister t rid l q) a f =
-      omega (arith, get_falls t rid l k e q a f, after_read_left t rid l (known_after κ (ask_want (ReadRegister rid) q) a k) (get_step t l e q a))
+      let k' = known_after κ (ask_want (ReadRegister rid) q) a k in
+      let step = get_step t l e q a in
+      let mapped : left β k' (map_stepped (GetRegister t rid l) Value step) ≡ read_left β rid l k' step = mapped_left (GetRegister t rid l) Value (machine_left β k') step in
+      omega (arith, get_falls t rid l k e q a f, mapped)
   falls k latest e (WriteRegister rid v w) a f =
-      omega (arith, write_falls rid v k e w a f, after_write_left rid v (known_after κ (write_want rid v w) a k) (write_step v e w a))
+      let k' = known_after κ (write_want rid v w) a k in
+      let step = write_step v e w a in
+      let mapped : left β k' (map_stepped (WriteRegister rid v) (λ written. Done) step) ≡ written_left β rid v k' step = mapped_left (WriteRegister rid v) (λ written. Done) (machine_left β k') step in
+      omega (arith, write_falls rid v k e w a f, mapped)
   falls k latest e (RequestFreshState l q) a f =
-      omega (arith, state_falls l k latest q a f, after_state_left l (known_after κ (ask_want RequestFeedback q) a k) (state_step l latest q a))
+      let k' = known_after κ (ask_want RequestFeedback q) a k in
+      let step = state_step l latest q a in
+      let mapped : left β k' (map_stepped (RequestFreshState l) State step) ≡ state_left β l k' step = mapped_left (RequestFreshState l) State (machine_left β k') step in
+      omega (arith, state_falls l k latest q a f, mapped)
   falls k latest e (StoreParameters s) a f =
-      omega (arith, store_falls k latest s a f, after_store_left (known_after κ (store_want s) a k) (store_step latest s a))
+      let k' = known_after κ (store_want s) a k in
+      let step = store_step latest s a in
+      let mapped : left β k' (map_stepped StoreParameters (λ stored. Done) step) ≡ stored_left β k' step = mapped_left StoreParameters (λ stored. Done) (machine_left β k') step in
+      omega (arith, store_falls k latest s a f, mapped)
   falls k latest e (EnsureControlMode mode total s) a f =
-      omega (arith, switch_falls mode total k e s a f, after_switch_left mode total (known_after κ (switch_want mode s) a k) (switch_step mode total e s a))
+      let k' = known_after κ (switch_want mode s) a k in
+      let step = switch_step mode total e s a in
+      let mapped : left β k' (map_stepped (EnsureControlMode mode total) (λ switched. Done) step) ≡ switched_left β mode k' step = mapped_left (EnsureControlMode mode total) (λ switched. Done) (machine_left β k') step in
+      omega (arith, switch_falls mode total k e s a f, mapped)
 
   pub covers : (k : κ.Known) (m : Machine) → weigh β (machine_want m) ≤ machine_left β k m
   covers k (GetRegister t rid l q) = ask_covers (ReadRegister rid) l k q
@@ -409,62 +385,58 @@ module _ {κ : Clocked} (β : Budget κ) where
   -- ---- any machine, over a list of answers
 
   abbrev pub option_left : {A : Type 0} → (κ.Known → A → ℕ) → κ.Known → Option A → ℕ
-  option_left left_at k none = 0
-  option_left left_at k (some m) = left_at k m
+  option_left left_at k None = 0
+  option_left left_at k (Some m) = left_at k m
 
   module _ (σ : System) (left_at : κ.Known → σ.At → ℕ) where
     pub bounded : ((k : κ.Known) (g : Given) (m : σ.At) → fine κ (σ.want m) g.answer k → weigh β (σ.want m) + option_left left_at (known_after κ (σ.want m) g.answer k) (σ.next g m) ≤ left_at k m)
         → ((k : κ.Known) (m : σ.At) → weigh β (σ.want m) ≤ left_at k m)
         → (gs : List Given) (k : κ.Known) (at : Option σ.At) → AllFine κ σ gs k at → total (weigh β) (wants_from σ gs at) ≤ option_left left_at k at
     unfolding wants_from total AllFine
-    bounded down up [] k none f = omega arith
-    bounded down up [] k (some m) f = omega (arith, up k m)
-    bounded down up (g ∷ gs) k none f = omega arith
-    bounded down up (g ∷ gs) k (some m) f = omega (arith, down k g m f.0, bounded down up gs (known_after κ (σ.want m) g.answer k) (σ.next g m) f.1)
+    bounded down up [] k None f = omega arith
+    bounded down up [] k (Some m) f = omega (arith, up k m)
+    bounded down up (g ∷ gs) k None f = omega arith
+    bounded down up (g ∷ gs) k (Some m) f = omega (arith, down k g m f.0, bounded down up gs (known_after κ (σ.want m) g.answer k) (σ.next g m) f.1)
 
   -- ---- a wait, an ack wait, and a run by themselves
 
-  still_left : (l : Duration) (k : κ.Known) (find : Instant → Bool) (x : Waited) → option_left (β.wait_left l) k (still find x) ≤ waited_left l k x
+  still_left : (l : Duration) (k : κ.Known) (find : Instant → Bool) (x : Waited Wait) → option_left (β.wait_left l) k (still find x) ≤ waited_left l k x
   still_left l k find (Waited.Goes w) = omega arith
   still_left l k find (Waited.Looks o) = go (find o)
     where
-      go : (b : Bool) → option_left (β.wait_left l) k (cond b none (some (Checking o))) ≤ β.wait_left l k (Checking o)
+      go : (b : Bool) → option_left (β.wait_left l) k (cond b None (Some (Checking o))) ≤ β.wait_left l k (Checking o)
       go true = omega arith
       go false = omega arith
   still_left l k find Waited.Late = omega arith
 
-  pub wait_bounded : (l : Duration) (finds : Given → Instant → Bool) (gs : List Given) (k : κ.Known) (w : Wait) → AllFine κ (waiting l finds) gs k (some w) → total (weigh β) (wants_from (waiting l finds) gs (some w)) ≤ β.wait_left l k w
+  pub wait_bounded : (l : Duration) (finds : Given → Instant → Bool) (gs : List Given) (k : κ.Known) (w : Wait) → AllFine κ (waiting l finds) gs k (Some w) → total (weigh β) (wants_from (waiting l finds) gs (Some w)) ≤ β.wait_left l k w
   wait_bounded l finds gs k w =
       bounded (waiting l finds) (β.wait_left l)
       (λ k g w f. omega (arith, wait_falls l k w g.answer f, still_left l (known_after κ (wait_want w) g.answer k) (finds g) (wait_step l w g.answer)))
       (wait_covers l)
       gs
       k
-      (some w)
+      (Some w)
 
-  acked_option : (k : κ.Known) (x : AckNext) → option_left (ack_left β) k (acking_on x) ≡ acked_left β k x
-  acked_option k (Ack.Goes q) = refl
-  acked_option k Ack.Acked = refl
-  acked_option k (Ack.Failed failure) = refl
+  on_option : {S T : Type 0} (left_at : κ.Known → S → ℕ) (k : κ.Known) (x : Stepped S T) → option_left left_at k (goes_on x) ≡ stepped_left (left_at k) x
+  on_option left_at k (Ok (Goes s)) = refl
+  on_option left_at k (Ok (Ends t)) = refl
+  on_option left_at k (Err failure) = refl
 
-  pub ack_bounded : (v : RegisterValue) (gs : List Given) (k : κ.Known) (q : AckWait) → AllFine κ (acking v) gs k (some q) → total (weigh β) (wants_from (acking v) gs (some q)) ≤ ack_left β k q
+  pub ack_bounded : (v : RegisterValue) (gs : List Given) (k : κ.Known) (q : AckWait) → AllFine κ (acking v) gs k (Some q) → total (weigh β) (wants_from (acking v) gs (Some q)) ≤ ack_left β k q
   ack_bounded v gs k q =
       bounded (acking v) (ack_left β)
-      (λ k g q f. omega (arith, ack_falls k v g.entry q g.answer f, acked_option (known_after κ (ack_want q) g.answer k) (ack_step v g.entry q g.answer)))
+      (λ k g q f. omega (arith, ack_falls k v g.entry q g.answer f, on_option (ack_left β) (known_after κ (ack_want q) g.answer k) (ack_step v g.entry q g.answer)))
       ack_covers
       gs
       k
-      (some q)
+      (Some q)
 
-  next_option : (k : κ.Known) (x : Next) → option_left (machine_left β) k (running_on x) ≡ left β k x
-  next_option k (Goes m) = refl
-  next_option k (Ends r) = refl
-
-  pub run_bounded : (gs : List Given) (k : κ.Known) (m : Machine) → AllFine κ running gs k (some m) → total (weigh β) (wants_from running gs (some m)) ≤ machine_left β k m
+  pub run_bounded : (gs : List Given) (k : κ.Known) (m : Machine) → AllFine κ running gs k (Some m) → total (weigh β) (wants_from running gs (Some m)) ≤ machine_left β k m
   run_bounded gs k m =
       bounded running (machine_left β)
-      (λ k g m f. omega (arith, falls k g.latest g.entry m g.answer f, next_option (known_after κ (machine_want m) g.answer k) (machine_step g.latest g.entry m g.answer)))
+      (λ k g m f. omega (arith, falls k g.latest g.entry m g.answer f, on_option (machine_left β) (known_after κ (machine_want m) g.answer k) (machine_step g.latest g.entry m g.answer)))
       covers
       gs
       k
-      (some m)
+      (Some m)

@@ -1,9 +1,9 @@
 -- Two ways of weighing: messages alone, whatever the clock does; and every want, where each sleep moves the clock on. Assumes nothing.
+use Rattle.std.specs.Prelude.{None, Option, Some}
 use Prim.Native.Nat.{ℕ, ◌+◌, ◌-◌, ◌*◌, ◌≤◌, ◌<◌, max}
 use mathlib.Core.Path.{◌≡◌, refl, sym, subst}
 use mathlib.Core.Bool.{false}
 use mathlib.Core.List.{List, [], ◌∷◌}
-use mathlib.Core.Option.{Option, none, some}
 use native.Mathlib.Nat.{mul-le-mul_left}
 use native.Mathlib.Omega.{arith}
 use borrow.Author.Tests.{leb-false}
@@ -51,8 +51,8 @@ known_nothing (Want.Sleep length) a = refl
 pub all_fine : (σ : System) (gs : List Given) (at : Option σ.At) → AllFine unclocked σ gs tt at
 unfolding AllFine
 all_fine σ [] at = tt
-all_fine σ (g ∷ gs) none = tt
-all_fine σ (g ∷ gs) (some m) = (one_fine (σ.want m) g.answer, subst (λ (k : Unit {0}). AllFine unclocked σ gs k (σ.next g m)) (sym (known_nothing (σ.want m) g.answer)) (all_fine σ gs (σ.next g m)))
+all_fine σ (g ∷ gs) None = tt
+all_fine σ (g ∷ gs) (Some m) = (one_fine (σ.want m) g.answer, subst (λ (k : Unit {0}). AllFine unclocked σ gs k (σ.next g m)) (sym (known_nothing (σ.want m) g.answer)) (all_fine σ gs (σ.next g m)))
 
 -- ---- every want, by the time that is left
 
@@ -65,8 +65,8 @@ furthest r [] = r.0
 furthest r (d ∷ ds) = max (r.0 + d.0) (furthest r ds)
 
 abbrev least_after : Option Instant → List Duration → ℕ
-least_after none naps = 0
-least_after (some r) naps = furthest r naps
+least_after None naps = 0
+least_after (Some r) naps = furthest r naps
 
 abbrev least : Clock → ℕ
 least k = least_after k.last k.naps
@@ -77,8 +77,8 @@ furthest_moved r [] t o m = o
 furthest_moved r (d ∷ ds) t o m = omega (arith, furthest_moved r ds t o m.1, m.0)
 
 least_later : (last : Option Instant) (naps : List Duration) (t : Instant) → Later last naps t → least_after last naps ≤ t.0
-least_later none naps t f = omega arith
-least_later (some r) naps t f = furthest_moved r naps t f.0 f.1
+least_later None naps t f = omega arith
+least_later (Some r) naps t f = furthest_moved r naps t f.0 f.1
 
 module _ (c s : ℕ) where
   -- a clock and a sleep for each interval, and the last clock

@@ -1,9 +1,9 @@
 -- What a wait saw where it ends: something fresh, or its deadline. Assumes nothing.
+use Rattle.std.specs.Prelude.{Option, Some, Result, Ok, Err, None}
 use Prim.Native.Nat.{ℕ, zero, suc, ◌≤◌}
 use mathlib.Core.Path.{◌≡◌, refl, sym, subst}
 use mathlib.Core.Bool.{Bool, true, false, cond}
 use mathlib.Core.Logic.{inl, inr}
-use mathlib.Core.Option.{some}
 use borrow.Author.Tests.{leb-true}
 use lib.Dec.{leb}
 use Rattle.time.specs.declared.Instant.{Instant}
@@ -11,16 +11,12 @@ use Rattle.time.specs.declared.Duration.{Duration}
 use Rattle.registers.specs.Value.{same_value, of_type}
 use Rattle.registers.specs.declared.RegisterDataType.{RegisterDataType}
 use Rattle.registers.specs.declared.RegisterValue.{RegisterValue}
-use Rattle.state_feedback.specs.declared.Latest.{Latest}
-use Rattle.state_feedback.specs.declared.Latest.TheVariants.{None, Snapshot}
 use Rattle.state_cache.specs.declared.Entry.{Entry}
 use Rattle.state_cache.specs.declared.Entry.TheVariants.{Empty, Held}
 use Rattle.run_want.specs.Want.{reading_of, send_outcome}
 use Rattle.run_want.specs.declared.Answer.{Answer}
 use Rattle.run_want.specs.declared.Failure.TheVariants.{Mismatch, WrongType}
-use Rattle.run_want.specs.declared.SendOutcome.{SendOutcome}
-use Rattle.run_want.specs.declared.SendOutcome.TheVariants as SendOutcome
-use Rattle.run_wait.specs.Ask.{ask_sent, ask_waited}
+use Rattle.run_wait.specs.Ask.{ask_waited}
 use Rattle.run_wait.specs.Look.{fresh_entry, fresh_record}
 use Rattle.run_wait.specs.Wait.{late}
 use Rattle.run_wait.specs.declared.Wait.TheVariants.{Checking, Napping}
@@ -28,15 +24,18 @@ use Rattle.run_wait.specs.declared.Waited.TheVariants as Waited
 use Rattle.run_wait.specs.declared.ask.Ask.{Ask}
 use Rattle.run_wait.specs.declared.ask.Ask.TheVariants.{Opening, Sending, Waiting}
 use Rattle.run_read.specs.Read.{reply_found, read_by, read_step, get_by, get_step}
-use Rattle.run_read.specs.declared.ReadNext.{ReadNext}
-use Rattle.run_read.specs.declared.ReadNext.TheVariants as Read
 use Rattle.run_write.specs.Ack.{ack_timeout, ack_waited, ack_step}
 use Rattle.run_write.specs.Ack as AckSpec
 use Rattle.run_write.specs.declared.ack.AckWait.{AckWait}
 use Rattle.run_write.specs.declared.ack.AckWait.TheVariants as AckWait
-use Rattle.run_write.specs.Write.{write_sent, write_waited, write_step}
-use Rattle.run_write.specs.declared.ack.AckNext.{AckNext}
-use Rattle.run_write.specs.declared.ack.AckNext.TheVariants as Ack
+use Rattle.run_write.specs.Write.{write_waited, write_step}
+use Rattle.run_want.specs.Step.{Stepped, goes, ends}
+use Rattle.run_want.specs.declared.Failure.{Failure}
+use Rattle.run_want.specs.declared.step.Step.TheVariants.{Goes, Ends}
+use Rattle.run_wait.specs.declared.Waited.{Waited}
+use Rattle.state_feedback.specs.declared.FeedbackSnapshot.{FeedbackSnapshot}
+use Rattle.state_feedback.specs.declared.MotorFeedbackState.{MotorFeedbackState}
+use Rattle.motor_core.specs.Outcome.{and_then}
 use Rattle.run_write.specs.declared.Write.{Write}
 use Rattle.run_write.specs.declared.Write.TheVariants as Write
 use Rattle.run_fresh.specs.State.{state_by, state_step}
@@ -47,14 +46,14 @@ module _ (l : Duration) (answer : Answer) where
   -- ---- the register read
 
   module _ (entry : Entry) where
-    read_look_saw : (ask : Ask) (o : Instant) → Look ask answer o → Since ask answer o → ReadSaw l entry ask answer (reply_found o (fresh_entry o entry))
+    read_look_saw : (ask : Ask) (o : Instant) → Look ask answer o → Since ask answer o → ReadSaw l entry ask answer (Ok (reply_found o (fresh_entry o entry)))
     read_look_saw ask o look since = go entry refl
       where
-        go : (e : Entry) → entry ≡ e → ReadSaw l entry ask answer (reply_found o (fresh_entry o e))
+        go : (e : Entry) → entry ≡ e → ReadSaw l entry ask answer (Ok (reply_found o (fresh_entry o e)))
         go Empty is = since
         go (Held value stamp) is = fresh (leb o.0 stamp.0) refl
           where
-            fresh : (b : Bool) → leb o.0 stamp.0 ≡ b → ReadSaw l entry ask answer (reply_found o (cond b (Held value stamp) Empty))
+            fresh : (b : Bool) → leb o.0 stamp.0 ≡ b → ReadSaw l entry ask answer (Ok (reply_found o (cond b (Held value stamp) Empty)))
             fresh true e = (o, look, record { stamp = stamp; holds = is; fresh = leb-true _ _ e })
             fresh false e = since
 
@@ -62,9 +61,9 @@ module _ (l : Duration) (answer : Answer) where
     read_saw Opening = (refl, refl)
     read_saw (Sending o) = go (send_outcome answer) refl
       where
-        go : (x : SendOutcome) → send_outcome answer ≡ x → ReadSaw l entry (Sending o) answer (read_by entry (ask_sent o x))
-        go SendOutcome.Sent e = read_look_saw (Sending o) o (refl, e) (refl, e)
-        go (SendOutcome.Failed failure) e = inl (o, refl, e)
+        go : (x : Result (Unit {0}) Failure) → send_outcome answer ≡ x → ReadSaw l entry (Sending o) answer (and_then (and_then x (λ sent. Ok (Waited.Looks o))) (read_by entry))
+        go (Ok sent) e = read_look_saw (Sending o) o (refl, e) (refl, e)
+        go (Err failure) e = inl (o, refl, e)
     read_saw (Waiting (Checking o)) = go (late o l (reading_of answer)) refl
       where
         go : (b : Bool) → late o l (reading_of answer) ≡ b → ReadSaw l entry (Waiting (Checking o)) answer (read_by entry (ask_waited (cond b Waited.Late (Waited.Goes (Napping o)))))
@@ -75,26 +74,26 @@ module _ (l : Duration) (answer : Answer) where
     pub get_saw : (data_type : RegisterDataType) (ask : Ask) → GetSaw data_type l entry ask answer (get_step data_type l entry ask answer)
     get_saw data_type ask = go (read_step l entry ask answer) (read_saw ask)
       where
-        go : (x : ReadNext) → ReadSaw l entry ask answer x → GetSaw data_type l entry ask answer (get_by data_type x)
-        go (Read.Goes next) saw = saw
-        go (Read.Got value) saw = typed (of_type value data_type) refl
+        go : (x : Stepped Ask RegisterValue) → ReadSaw l entry ask answer x → GetSaw data_type l entry ask answer (and_then x (get_by data_type))
+        go (Ok (Goes next)) saw = saw
+        go (Ok (Ends value)) saw = typed (of_type value data_type) refl
           where
-            typed : (b : Bool) → of_type value data_type ≡ b → GetSaw data_type l entry ask answer (cond b (Read.Got value) (Read.Failed WrongType))
+            typed : (b : Bool) → of_type value data_type ≡ b → GetSaw data_type l entry ask answer (and_then (cond b (Ok value) (Err WrongType)) ends)
             typed true e = (saw, e)
             typed false e = inr (value, saw, e, refl)
-        go (Read.Failed failure) saw = inl saw
+        go (Err failure) saw = inl saw
 
   -- ---- the fresh-state request
 
-  module _ (latest : Latest) where
-    state_look_saw : (ask : Ask) (o : Instant) → ask_opening ask ≡ some o → StateSaw l latest ask answer (StateSpec.record_found o (fresh_record o latest))
+  module _ (latest : Option FeedbackSnapshot) where
+    state_look_saw : (ask : Ask) (o : Instant) → ask_opening ask ≡ Some o → StateSaw l latest ask answer (Ok (StateSpec.record_found o (fresh_record o latest)))
     state_look_saw ask o opened = go latest refl
       where
-        go : (x : Latest) → latest ≡ x → StateSaw l latest ask answer (StateSpec.record_found o (fresh_record o x))
+        go : (x : Option FeedbackSnapshot) → latest ≡ x → StateSaw l latest ask answer (Ok (StateSpec.record_found o (fresh_record o x)))
         go None is = tt
-        go (Snapshot s) is = fresh (leb o.0 s.received_at.0) refl
+        go (Some s) is = fresh (leb o.0 s.received_at.0) refl
           where
-            fresh : (b : Bool) → leb o.0 s.received_at.0 ≡ b → StateSaw l latest ask answer (StateSpec.record_found o (cond b (Snapshot s) None))
+            fresh : (b : Bool) → leb o.0 s.received_at.0 ≡ b → StateSaw l latest ask answer (Ok (StateSpec.record_found o (cond b (Some s) None)))
             fresh true e = (o, opened, record { snapshot = s; is_latest = is; its_state = refl; fresh = leb-true _ _ e })
             fresh false e = tt
 
@@ -102,9 +101,9 @@ module _ (l : Duration) (answer : Answer) where
     state_saw Opening = tt
     state_saw (Sending o) = go (send_outcome answer) refl
       where
-        go : (x : SendOutcome) → send_outcome answer ≡ x → StateSaw l latest (Sending o) answer (state_by latest (ask_sent o x))
-        go SendOutcome.Sent e = state_look_saw (Sending o) o refl
-        go (SendOutcome.Failed failure) e = (o, refl, e)
+        go : (x : Result (Unit {0}) Failure) → send_outcome answer ≡ x → StateSaw l latest (Sending o) answer (and_then (and_then x (λ sent. Ok (Waited.Looks o))) (state_by latest))
+        go (Ok sent) e = state_look_saw (Sending o) o refl
+        go (Err failure) e = (o, refl, e)
     state_saw (Waiting (Checking o)) = go (late o l (reading_of answer)) refl
       where
         go : (b : Bool) → late o l (reading_of answer) ≡ b → StateSaw l latest (Waiting (Checking o)) answer (state_by latest (ask_waited (cond b Waited.Late (Waited.Goes (Napping o)))))
@@ -128,7 +127,7 @@ module _ (value : RegisterValue) (entry : Entry) (answer : Answer) where
               seen : HoldsFresh (ack_opening ack answer) entry got
               seen = record { stamp = stamp; holds = is; fresh = subst (λ (x : Instant). x.0 ≤ stamp.0) (sym opened) (leb-true _ _ e) }
 
-              same : (b : Bool) → same_value got value ≡ b → AckSaw value entry ack answer (cond b Ack.Acked (Ack.Failed (Mismatch got)))
+              same : (b : Bool) → same_value got value ≡ b → AckSaw value entry ack answer (cond b (Ok (Ends tt)) (Err (Mismatch got)))
               same true h = (got, seen, h)
               same false h = inl (got, seen, h, refl)
           fresh false e = tt
@@ -147,14 +146,14 @@ module _ (value : RegisterValue) (entry : Entry) (answer : Answer) where
   pub write_saw : (write : Write) → WriteSaw value entry write answer (write_step value entry write answer)
   write_saw (Write.Sending n) = go (send_outcome answer) refl
     where
-      go : (x : SendOutcome) → send_outcome answer ≡ x → WriteSaw value entry (Write.Sending n) answer (write_sent n x)
-      go SendOutcome.Sent e = tt
-      go (SendOutcome.Failed failure) e = inl (n, refl, e)
+      go : (x : Result (Unit {0}) Failure) → send_outcome answer ≡ x → WriteSaw value entry (Write.Sending n) answer (and_then x (λ sent. goes (Write.Waiting n AckWait.Opening)))
+      go (Ok sent) e = tt
+      go (Err failure) e = inl (n, refl, e)
   write_saw (Write.Waiting n ack) = go n (ack_step value entry ack answer) (ack_saw ack)
     where
-      go : (n : ℕ) (x : AckNext) → AckSaw value entry ack answer x → WriteSaw value entry (Write.Waiting n ack) answer (write_waited n x)
-      go n (Ack.Goes next) saw = tt
-      go n Ack.Acked saw = (n, ack, refl, saw)
-      go zero (Ack.Failed failure) saw = inr (ack, refl, saw)
-      go (suc m) (Ack.Failed failure) saw = tt
+      go : (n : ℕ) (x : Stepped AckWait (Unit {0})) → AckSaw value entry ack answer x → WriteSaw value entry (Write.Waiting n ack) answer (write_waited n x)
+      go n (Ok (Goes next)) saw = tt
+      go n (Ok (Ends acked)) saw = (n, ack, refl, saw)
+      go zero (Err failure) saw = inr (ack, refl, saw)
+      go (suc m) (Err failure) saw = tt
   write_saw (Write.Gap n) = tt

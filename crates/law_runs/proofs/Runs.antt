@@ -1,8 +1,8 @@
 -- Each wait and each run wants no more than it says. Assumes nothing.
+use Rattle.std.specs.Prelude.{None, Option, Some}
 use Prim.Native.Nat.{ℕ, ◌≤◌}
 use mathlib.Core.Path.{◌≡◌, refl}
 use mathlib.Core.List.{List, [], ◌∷◌}
-use mathlib.Core.Option.{Option, none, some}
 use native.Mathlib.Omega.{arith}
 use lib.ListN.{length}
 use Rattle.registers.specs.Value.{bits_of}
@@ -25,12 +25,12 @@ one_want Clock = refl
 one_want (Send message) = refl
 one_want (Sleep length) = refl
 
-pub ends : (σ : System) (gs : List Given) (at : Option σ.At) → total any_want (wants_from σ gs at) ≤ length gs → after σ gs at ≡ none
+pub ends : (σ : System) (gs : List Given) (at : Option σ.At) → total any_want (wants_from σ gs at) ≤ length gs → after σ gs at ≡ None
 unfolding wants_from total after
-ends σ [] none h = refl
-ends σ [] (some m) h = absurd (omega (arith, one_want (σ.want m)))
-ends σ (g ∷ gs) none h = refl
-ends σ (g ∷ gs) (some m) h = ends σ gs (σ.next g m) (omega (arith, one_want (σ.want m)))
+ends σ [] None h = refl
+ends σ [] (Some m) h = absurd (omega (arith, one_want (σ.want m)))
+ends σ (g ∷ gs) None h = refl
+ends σ (g ∷ gs) (Some m) h = ends σ gs (σ.next g m) (omega (arith, one_want (σ.want m)))
 
 -- what the two ways of weighing leave to a run at its start
 within : (m : Machine) (sends : (Label → ℕ) → ℕ) (sleeps answers : ℕ)
@@ -39,9 +39,9 @@ within : (m : Machine) (sends : (Label → ℕ) → ℕ) (sleeps answers : ℕ)
     → machine_left (by_clock 1 1 (λ command. 1)) unheard m ≤ answers
     → Within m sends sleeps answers
 within m sends sleeps answers a b c = record {
-  sends_at_most = λ w gs. omega (arith, a w, run_bounded (by_message w) gs tt m (all_fine running gs (some m)));
+  sends_at_most = λ w gs. omega (arith, a w, run_bounded (by_message w) gs tt m (all_fine running gs (Some m)));
   sleeps_at_most = λ gs h. omega (arith, run_bounded (by_clock 0 1 (λ command. 0)) gs unheard m h);
-  ends_after = λ gs h n. ends running gs (some m) (omega (arith, run_bounded (by_clock 1 1 (λ command. 1)) gs unheard m h));
+  ends_after = λ gs h n. ends running gs (Some m) (omega (arith, run_bounded (by_clock 1 1 (λ command. 1)) gs unheard m h));
 }
 
 pub bounds : Bounds

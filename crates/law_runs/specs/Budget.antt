@@ -1,5 +1,12 @@
 -- What each phase may still want, weighed. Definitions only.
-use Rattle.std.specs.Prelude.{ℕ, zero, suc, ◌+◌, ◌≤◌, ◌≡◌, false}
+use Rattle.std.specs.Prelude.{ℕ, zero, suc, ◌+◌, ◌≤◌, ◌≡◌, false, Option, Result, Ok, Err}
+use Rattle.state_feedback.specs.declared.MotorFeedbackState.{MotorFeedbackState}
+use Rattle.run_want.specs.Step.{Stepped}
+use Rattle.run_want.specs.declared.Failure.{Failure}
+use Rattle.run_want.specs.declared.step.Step.TheVariants.{Goes, Ends}
+use Rattle.run_wait.specs.declared.Waited.{Waited}
+use Rattle.run_wait.specs.declared.Waited.TheVariants as Waited
+use Rattle.run_machine.specs.declared.Outcome.{Outcome}
 use Rattle.time.specs.Time.{millis}
 use Rattle.time.specs.declared.Instant.{Instant}
 use Rattle.time.specs.declared.Duration.{Duration}
@@ -15,38 +22,22 @@ use Rattle.run_wait.specs.declared.Wait.{Wait}
 use Rattle.run_wait.specs.declared.Wait.TheVariants.{Checking, Napping}
 use Rattle.run_wait.specs.declared.ask.Ask.{Ask}
 use Rattle.run_wait.specs.declared.ask.Ask.TheVariants as Ask
-use Rattle.run_wait.specs.declared.ask.Asked.{Asked}
-use Rattle.run_wait.specs.declared.ask.Asked.TheVariants as Asked
-use Rattle.run_read.specs.declared.ReadNext.{ReadNext}
-use Rattle.run_read.specs.declared.ReadNext.TheVariants as Read
 use Rattle.run_write.specs.Ack.{ack_timeout}
 use Rattle.run_write.specs.declared.ack.AckWait.{AckWait}
 use Rattle.run_write.specs.declared.ack.AckWait.TheVariants as AckWait
-use Rattle.run_write.specs.declared.ack.AckNext.{AckNext}
-use Rattle.run_write.specs.declared.ack.AckNext.TheVariants as Ack
 use Rattle.run_write.specs.declared.Write.{Write}
 use Rattle.run_write.specs.declared.Write.TheVariants as Write
-use Rattle.run_write.specs.declared.WriteNext.{WriteNext}
-use Rattle.run_write.specs.declared.WriteNext.TheVariants as Written
 use Rattle.run_fresh.specs.Store.{state_timeout}
-use Rattle.run_fresh.specs.declared.StateNext.{StateNext}
-use Rattle.run_fresh.specs.declared.StateNext.TheVariants as State
 use Rattle.run_fresh.specs.declared.store.Store.{Store}
 use Rattle.run_fresh.specs.declared.store.Store.TheVariants as Store
-use Rattle.run_fresh.specs.declared.store.StoreNext.{StoreNext}
-use Rattle.run_fresh.specs.declared.store.StoreNext.TheVariants as Stored
 use Rattle.switch_stage.specs.Stage.{mode_value}
 use Rattle.switch_stage.specs.declared.ModeRead.{ModeRead}
 use Rattle.switch_stage.specs.declared.ModeRead.TheVariants.{First, Verify}
 use Rattle.switch_stage.specs.declared.Stage.TheVariants as Stage
 use Rattle.switch_stage.specs.declared.Switch.{Switch}
 use Rattle.switch_stage.specs.declared.Switch.TheVariants as Switch
-use Rattle.switch_stage.specs.declared.SwitchNext.{SwitchNext}
-use Rattle.switch_stage.specs.declared.SwitchNext.TheVariants as Switched
 use Rattle.run_machine.specs.declared.Machine.{Machine}
 use Rattle.run_machine.specs.declared.Machine.TheVariants.{GetRegister, WriteRegister, RequestFreshState, StoreParameters, EnsureControlMode}
-use Rattle.run_step.specs.declared.Next.{Next}
-use Rattle.run_step.specs.declared.Next.TheVariants.{Goes, Ends}
 use Rattle.law_runs.specs.Clock.{Clocked}
 use Rattle.law_runs.specs.Trace.{Label, label, counted}
 
@@ -67,6 +58,12 @@ pub record Budget (κ : Clocked) : Type 1 where
   -- the sleep after it
   pub after_sleep : (l : Duration) (k : κ.Known) (o : Instant) → sleep + wait_left l (κ.nap poll_interval k) (Checking o) ≤ wait_left l k (Napping o)
 
+-- what a step leaves to a run, by what its phase leaves: nothing where it ends or fails
+abbrev pub stepped_left : {S T : Type 0} → (S → ℕ) → Stepped S T → ℕ
+stepped_left left (Ok (Goes s)) = left s
+stepped_left left (Ok (Ends t)) = 0
+stepped_left left (Err failure) = 0
+
 module _ {κ : Clocked} (β : Budget κ) where
   abbrev pub weigh : Want → ℕ
   weigh = counted β.clock β.send β.sleep
@@ -77,22 +74,17 @@ module _ {κ : Clocked} (β : Budget κ) where
   ask_left m l k (Ask.Sending o) = β.send (label m) + β.wait_left l k (Checking o)
   ask_left m l k (Ask.Waiting w) = β.wait_left l k w
 
-  abbrev pub asked_left : Message → Duration → κ.Known → Asked → ℕ
-  asked_left m l k (Asked.Goes ask) = ask_left m l k ask
-  asked_left m l k (Asked.Looks o) = β.wait_left l k (Checking o)
-  asked_left m l k Asked.Late = 0
-  asked_left m l k (Asked.Failed failure) = 0
+  abbrev pub asked_left : Message → Duration → κ.Known → Result (Waited Ask) Failure → ℕ
+  asked_left m l k (Ok (Waited.Goes ask)) = ask_left m l k ask
+  asked_left m l k (Ok (Waited.Looks o)) = β.wait_left l k (Checking o)
+  asked_left m l k (Ok Waited.Late) = 0
+  asked_left m l k (Err failure) = 0
 
-  abbrev pub read_left : ℕ → Duration → κ.Known → ReadNext → ℕ
-  read_left rid l k (Read.Goes ask) = ask_left (Message.ReadRegister rid) l k ask
-  read_left rid l k (Read.Got value) = 0
-  read_left rid l k (Read.Failed failure) = 0
+  abbrev pub read_left : ℕ → Duration → κ.Known → Stepped Ask RegisterValue → ℕ
+  read_left rid l k = stepped_left (ask_left (Message.ReadRegister rid) l k)
 
-  abbrev pub state_left : Duration → κ.Known → StateNext → ℕ
-  state_left l k (State.Goes ask) = ask_left Message.RequestFeedback l k ask
-  state_left l k (State.Got state) = 0
-  state_left l k State.NoState = 0
-  state_left l k (State.Failed failure) = 0
+  abbrev pub state_left : Duration → κ.Known → Stepped Ask (Option MotorFeedbackState) → ℕ
+  state_left l k = stepped_left (ask_left Message.RequestFeedback l k)
 
   -- storing, after its request
   abbrev pub storing : ℕ
@@ -108,19 +100,15 @@ module _ {κ : Clocked} (β : Budget κ) where
   store_left k Store.Storing = storing
   store_left k Store.Stored = β.sleep
 
-  abbrev pub stored_left : κ.Known → StoreNext → ℕ
-  stored_left k (Stored.Goes store) = store_left k store
-  stored_left k Stored.Done = 0
-  stored_left k (Stored.Failed failure) = 0
+  abbrev pub stored_left : κ.Known → Stepped Store (Unit {0}) → ℕ
+  stored_left k = stepped_left (store_left k)
 
   abbrev pub ack_left : κ.Known → AckWait → ℕ
   ack_left k AckWait.Opening = β.clock + β.opened ack_timeout
   ack_left k (AckWait.Waiting w) = β.wait_left ack_timeout k w
 
-  abbrev pub acked_left : κ.Known → AckNext → ℕ
-  acked_left k (Ack.Goes ack) = ack_left k ack
-  acked_left k Ack.Acked = 0
-  acked_left k (Ack.Failed failure) = 0
+  abbrev pub acked_left : κ.Known → Stepped AckWait (Unit {0}) → ℕ
+  acked_left k = stepped_left (ack_left k)
 
   -- one try of a write, and the tries after it, each after a gap
   abbrev pub one_try : ℕ → RegisterValue → ℕ
@@ -135,10 +123,8 @@ module _ {κ : Clocked} (β : Budget κ) where
   write_left rid value k (Write.Waiting n ack) = ack_left k ack + more_tries rid value n
   write_left rid value k (Write.Gap n) = β.sleep + one_try rid value + more_tries rid value n
 
-  abbrev pub written_left : ℕ → RegisterValue → κ.Known → WriteNext → ℕ
-  written_left rid value k (Written.Goes write) = write_left rid value k write
-  written_left rid value k Written.Written = 0
-  written_left rid value k (Written.Failed failure) = 0
+  abbrev pub written_left : ℕ → RegisterValue → κ.Known → Stepped Write (Unit {0}) → ℕ
+  written_left rid value k = stepped_left (write_left rid value k)
 
   -- a read of the mode, with the reading of the time that is left for it, and that of the position to hold
   abbrev pub reading_in : ℕ → Duration → ℕ
@@ -192,10 +178,8 @@ module _ {κ : Clocked} (β : Budget κ) where
   switch_left mode k (Switch.Begun p (Stage.SettleSleep n l)) = β.sleep + holding mode + mode_reading + more_rounds mode n
   switch_left mode k (Switch.Begun p (Stage.Holding n)) = holding mode + mode_reading + more_rounds mode n
 
-  abbrev pub switched_left : ControlMode → κ.Known → SwitchNext → ℕ
-  switched_left mode k (Switched.Goes switch) = switch_left mode k switch
-  switched_left mode k Switched.Done = 0
-  switched_left mode k (Switched.Failed failure) = 0
+  abbrev pub switched_left : ControlMode → κ.Known → Stepped Switch (Unit {0}) → ℕ
+  switched_left mode k = stepped_left (switch_left mode k)
 
   -- each run's machine
   abbrev pub machine_left : κ.Known → Machine → ℕ
@@ -205,6 +189,5 @@ module _ {κ : Clocked} (β : Budget κ) where
   machine_left k (StoreParameters store) = store_left k store
   machine_left k (EnsureControlMode mode l switch) = switch_left mode k switch
 
-  abbrev pub left : κ.Known → Next → ℕ
-  left k (Goes machine) = machine_left k machine
-  left k (Ends result) = 0
+  abbrev pub left : κ.Known → Stepped Machine Outcome → ℕ
+  left k = stepped_left (machine_left k)

@@ -1,6 +1,5 @@
 -- What a machine knows of the clock by its own readings, and where each of its sleeps moves the clock on. Definitions only.
-use Rattle.std.specs.Prelude.{ℕ, ◌+◌, ◌-◌, ◌/◌, ◌≤◌, List, [], ◌∷◌}
-use Rattle.std.proofs.Math.Option.{Option, none, some}
+use Rattle.std.specs.Prelude.{ℕ, ◌+◌, ◌-◌, ◌/◌, ◌≤◌, List, [], ◌∷◌, None, Option, Some}
 use Rattle.run_wait.specs.Wait.{poll_interval}
 use Rattle.time.specs.declared.Instant.{Instant}
 use Rattle.time.specs.declared.Duration.{Duration}
@@ -31,8 +30,8 @@ module _ (κ : Clocked) where
   -- every reading that a machine takes is fine
   unfoldable pub AllFine : (σ : System) → List Given → κ.Known → Option σ.At → Type 0
   AllFine σ [] k at = Unit {0}
-  AllFine σ (g ∷ gs) k none = Unit {0}
-  AllFine σ (g ∷ gs) k (some m) = fine (σ.want m) g.answer k × AllFine σ gs (known_after (σ.want m) g.answer k) (σ.next g m)
+  AllFine σ (g ∷ gs) k None = Unit {0}
+  AllFine σ (g ∷ gs) k (Some m) = fine (σ.want m) g.answer k × AllFine σ gs (known_after (σ.want m) g.answer k) (σ.next g m)
 
 -- the last reading that the machine took, and its sleeps since
 pub record Clock : Type 0 where
@@ -41,10 +40,10 @@ pub record Clock : Type 0 where
 
 -- one that has taken no reading
 abbrev pub unheard : Clock
-unheard = record { last = none; naps = [] }
+unheard = record { last = None; naps = [] }
 
 abbrev pub heard : Instant → Clock
-heard t = record { last = some t; naps = [] }
+heard t = record { last = Some t; naps = [] }
 
 abbrev pub slept : Duration → Clock → Clock
 slept d k = record { last = k.last; naps = d ∷ k.naps }
@@ -56,8 +55,8 @@ Moved r (d ∷ ds) t = (r.0 + d.0 ≤ t.0) × Moved r ds t
 
 -- and, as 'Turned back', 3, has it of every reading that a session takes, none is below the last
 abbrev pub Later : Option Instant → List Duration → Instant → Type 0
-Later none naps t = Unit {0}
-Later (some r) naps t = (r.0 ≤ t.0) × Moved r naps t
+Later None naps t = Unit {0}
+Later (Some r) naps t = (r.0 ≤ t.0) × Moved r naps t
 
 abbrev pub moving : Clocked
 moving = record { Known = Clock; hear = heard; nap = slept; Fine = λ k t. Later k.last k.naps t }

@@ -1,7 +1,6 @@
 -- What a machine wants from where it stands on, as its answers come. Definitions only.
-use Rattle.std.specs.Prelude.{ℕ, ◌+◌, List, [], ◌∷◌}
-use Rattle.std.proofs.Math.Option.{Option, none, some}
-use Rattle.state_feedback.specs.declared.Latest.{Latest}
+use Rattle.std.specs.Prelude.{ℕ, ◌+◌, List, [], ◌∷◌, None, Option, Some}
+use Rattle.state_feedback.specs.declared.FeedbackSnapshot.{FeedbackSnapshot}
 use Rattle.state_cache.specs.declared.Entry.{Entry}
 use Rattle.run_want.specs.declared.Answer.{Answer}
 use Rattle.run_want.specs.declared.Want.{Want}
@@ -13,7 +12,7 @@ use Rattle.run_want.specs.declared.message.Message.TheVariants.{ReadRegister, Wr
 -- an answer, with what is there for a look in that call
 pub record Given : Type 0 where
   pub answer : Answer
-  pub latest : Latest
+  pub latest : Option FeedbackSnapshot
   pub entry : Entry
 
 -- what is wanted where it stands, and where an answer leads: nowhere, once it has ended
@@ -25,16 +24,16 @@ pub record System : Type 1 where
 module _ (σ : System) where
   -- the want that is open, and those that follow until the end
   unfoldable pub wants_from : List Given → Option σ.At → List Want
-  wants_from [] none = []
-  wants_from [] (some m) = σ.want m ∷ []
-  wants_from (g ∷ gs) none = []
-  wants_from (g ∷ gs) (some m) = σ.want m ∷ wants_from gs (σ.next g m)
+  wants_from [] None = []
+  wants_from [] (Some m) = σ.want m ∷ []
+  wants_from (g ∷ gs) None = []
+  wants_from (g ∷ gs) (Some m) = σ.want m ∷ wants_from gs (σ.next g m)
 
   -- where it stands then
   unfoldable pub after : List Given → Option σ.At → Option σ.At
   after [] at = at
-  after (g ∷ gs) none = none
-  after (g ∷ gs) (some m) = after gs (σ.next g m)
+  after (g ∷ gs) None = None
+  after (g ∷ gs) (Some m) = after gs (σ.next g m)
 
 -- a message by its command: a hold whatever its position
 pub data Label : Type 0 where

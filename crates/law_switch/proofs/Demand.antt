@@ -1,9 +1,9 @@
 -- Demand 3. Assumes nothing.
+use Rattle.std.specs.Prelude.{None, Option, Some}
 use Prim.Native.Nat.{ℕ, ◌≤◌}
 use mathlib.Core.Path.{◌≡◌, refl, sym, ap, ◌∙◌, subst}
 use mathlib.Core.Bool.{Bool}
 use mathlib.Core.List.{List, ◌∷◌}
-use mathlib.Core.Option.{Option, none, some}
 use native.Mathlib.Omega.{arith}
 use Rattle.time.specs.declared.Instant.{Instant}
 use Rattle.time.specs.declared.Duration.{Duration}
@@ -60,7 +60,7 @@ module _ (h : Head) (mode : ControlMode) (timeout : Duration) (ts : List Turn) (
   counted_in f = count f (first ∷ gaves ts)
 
   abbrev wanted_in : (Want → ℕ) → ℕ
-  wanted_in w = Trace.total w (Trace.wants_from running trace.gs (some (machine h mode timeout Starting)))
+  wanted_in w = Trace.total w (Trace.wants_from running trace.gs (Some (machine h mode timeout Starting)))
 
   -- counted in what was returned, or in what the definition wants: the same
   reads_as : counted_in (mode_read motor) ≡ wanted_in (counted 0 Count.mode_reads 0)
@@ -96,13 +96,13 @@ module _ (h : Head) (mode : ControlMode) (timeout : Duration) (ts : List Turn) (
   sleeps_wanted = trace.counts _ _ (λ q. Count.sleeps_weight h (switch_want mode q)) (λ r. refl)
 
   -- its sleeps move the clock on, so the definition's do
-  moving : AllMove none first.told ts → Moving running trace.gs unheard (some (machine h mode timeout Starting))
+  moving : AllMove None first.told ts → Moving running trace.gs unheard (Some (machine h mode timeout Starting))
   unfolding Moved
   moving m = trace.moves unheard tt (λ r t e n. tt) m
 
   some_of : RunResult → Option RunResult → RunResult
-  some_of r none = r
-  some_of r (some x) = x
+  some_of r None = r
+  some_of r (Some x) = x
 
   pub bounded : Bounded motor (mode_number mode) first ts z
   unfolding some_of result_in
@@ -121,8 +121,8 @@ module _ (h : Head) (mode : ControlMode) (timeout : Duration) (ts : List Turn) (
         answerable = answered h mode timeout z ts Starting l how;
         closes = λ r e. closed_after h mode timeout z ts Starting l first r how e;
         success = λ r e. (
-          λ done. done_found h mode timeout z ts l how (subst (λ (x : RunResult). result_of ts ≡ some x) done e),
-          λ f. ap (some_of r) (sym e ∙ found_done h mode timeout z ts Starting l none how (λ o is. absurd (none≢some is)) f),
+          λ done. done_found h mode timeout z ts l how (subst (λ (x : RunResult). result_of ts ≡ Some x) done e),
+          λ f. ap (some_of r) (sym e ∙ found_done h mode timeout z ts Starting l None how (λ o is. absurd (None≢Some is)) f),
         );
       }
 
@@ -153,8 +153,8 @@ module _ (h : Head) (s : Session) (sound : Sound h s) (n : ℕ) (timeout : Durat
       let sound' : Sound h s' = record { motor_id = sound.motor_id; limits = sound.limits; replies = sound.replies; last = sound.last } in
       let ts = turns (mode_entry s) (events s' after) in
       let z = session_after s' after in
-      subst (λ (w : Told). Bounded h.motor_id n (record { told = w; wants = some Clock }) (turns_after w (mode_entry s) (events s' after)) z) (ap (told_in (Told.Want Wanted.Clock)) e)
-      (subst (λ (n : ℕ). Bounded h.motor_id n (record { told = Told.Want Wanted.Clock; wants = some Clock }) ts z) x.number
+      subst (λ (w : Told). Bounded h.motor_id n (record { told = w; wants = Some Clock }) (turns_after w (mode_entry s) (events s' after)) z) (ap (told_in (Told.Want Wanted.Clock)) e)
+      (subst (λ (n : ℕ). Bounded h.motor_id n (record { told = Told.Want Wanted.Clock; wants = Some Clock }) ts z) x.number
       (bounded h x.mode timeout ts z s.head.last (ran h x.mode timeout after s' Starting refl sound'))))
 
   any_start : Starts (begin s (mode_start n timeout))

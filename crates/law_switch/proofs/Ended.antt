@@ -1,8 +1,8 @@
 -- A switch that has not ended stands open, and an answer to it is accepted. Assumes nothing.
+use Rattle.std.specs.Prelude.{None, Some}
 use Prim.Native.Nat.{◌≤◌, ◌^◌}
 use mathlib.Core.Path.{◌≡◌, refl, sym, ap, ◌∙◌, subst}
 use mathlib.Core.List.{List, [], ◌∷◌}
-use mathlib.Core.Option.{none, some}
 use Rattle.time.specs.declared.Instant.{Instant}
 use Rattle.time.specs.declared.Duration.{Duration}
 use Rattle.protocol_hold.specs.declared.ControlMode.{ControlMode}
@@ -39,13 +39,13 @@ module _ (h : Head) (mode : ControlMode) (timeout : Duration) (z : Session) wher
   abbrev StandsOpen : Type 0
   StandsOpen = (p : Switch) × (z.run.phase ≡ Open (machine h mode timeout p)) × (z.head.last.0 ≤ 2 ^ 62)
 
-  still_open : (ts : List Turn) (p : Switch) (l : Instant) → Ran h mode timeout z p l ts → result_of ts ≡ none → StandsOpen
+  still_open : (ts : List Turn) (p : Switch) (l : Instant) → Ran h mode timeout z p l ts → result_of ts ≡ None → StandsOpen
   unfolding Ran result_of result_in
   still_open [] p l ran e = (p, ran.0, ran.1)
   still_open (t ∷ ts) p l (k, on) e =
       onward_cases h mode timeout (λ q. Ran h mode timeout z q (with_reading k.head t.answer).last ts) t ts (switch_step mode timeout k.entry p t.answer) on
       (λ q x gave ran. still_open ts q (with_reading k.head t.answer).last ran (sym (want_on h mode timeout t ts q gave) ∙ e))
-      (λ r x gave stop. absurd (none≢some (sym e ∙ end_of h mode timeout t ts r gave)))
+      (λ r x gave stop. absurd (None≢Some (sym e ∙ end_of h mode timeout t ts r gave)))
 
   -- an answer that is accepted
   abbrev Answerable : Type 0
@@ -61,13 +61,13 @@ module _ (h : Head) (mode : ControlMode) (timeout : Duration) (z : Session) wher
       go a (Next.Goes m) = wants_accepted (with_reading z.head a) (machine_want m)
       go a (Next.Ends r) = tt
 
-  pub answered : (ts : List Turn) (p : Switch) (l : Instant) → Ran h mode timeout z p l ts → result_of ts ≡ none → Answerable
+  pub answered : (ts : List Turn) (p : Switch) (l : Instant) → Ran h mode timeout z p l ts → result_of ts ≡ None → Answerable
   answered ts p l ran e = answer_accepted_in (still_open ts p l ran e)
 
   -- one that has ended wants nothing more
-  pub closed_after : (ts : List Turn) (p : Switch) (l : Instant) (g : Gave) (r : RunResult) → Ran h mode timeout z p l ts → result_of ts ≡ some r → (gave_after g ts).wants ≡ none
+  pub closed_after : (ts : List Turn) (p : Switch) (l : Instant) (g : Gave) (r : RunResult) → Ran h mode timeout z p l ts → result_of ts ≡ Some r → (gave_after g ts).wants ≡ None
   unfolding Ran result_of gave_after
-  closed_after [] p l g r ran e = absurd (none≢some e)
+  closed_after [] p l g r ran e = absurd (None≢Some e)
   closed_after (t ∷ ts) p l g r (k, on) e =
       onward_cases h mode timeout (λ q. Ran h mode timeout z q (with_reading k.head t.answer).last ts) t ts (switch_step mode timeout k.entry p t.answer) on
       (λ q x gave ran. closed_after ts q (with_reading k.head t.answer).last t.gave r ran (sym (want_on h mode timeout t ts q gave) ∙ e))

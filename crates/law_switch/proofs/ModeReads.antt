@@ -1,8 +1,8 @@
 -- The reads of register 10 in a switch, by its definition: where they open, where they look, and what ends them. Assumes nothing.
+use Rattle.std.specs.Prelude.{None, Option, Some}
 use Prim.Native.Nat.{ℕ, zero, suc, ◌≤◌}
 use mathlib.Core.Path.{◌≡◌, refl, sym, ap, ◌∙◌, subst}
 use mathlib.Core.Bool.{Bool, true, false, cond, true≢false}
-use mathlib.Core.Option.{Option, none, some}
 use borrow.Author.Tests.{le-leb, eqb-true, eq-eqb}
 use Rattle.time.specs.declared.Instant.{Instant}
 use Rattle.time.specs.declared.Duration.{Duration}
@@ -62,22 +62,22 @@ use Rattle.law_switch.specs.Claim.{wants_send, reads_mode}
 
 -- the read of register 10 that a phase is in
 abbrev pub mode_ask : Switch → Option Ask
-mode_ask Starting = none
-mode_ask (Begun p (Remaining which)) = none
-mode_ask (Begun p (Reading which l ask)) = some ask
-mode_ask (Begun p HoldRemaining) = none
-mode_ask (Begun p (HoldReading l ask)) = none
-mode_ask (Begun p (Clearing channel)) = none
-mode_ask (Begun p (Writing n write)) = none
-mode_ask (Begun p (SettleRemaining n)) = none
-mode_ask (Begun p (SettleSleep n l)) = none
-mode_ask (Begun p (Holding n)) = none
+mode_ask Starting = None
+mode_ask (Begun p (Remaining which)) = None
+mode_ask (Begun p (Reading which l ask)) = Some ask
+mode_ask (Begun p HoldRemaining) = None
+mode_ask (Begun p (HoldReading l ask)) = None
+mode_ask (Begun p (Clearing channel)) = None
+mode_ask (Begun p (Writing n write)) = None
+mode_ask (Begun p (SettleRemaining n)) = None
+mode_ask (Begun p (SettleSleep n l)) = None
+mode_ask (Begun p (Holding n)) = None
 
 -- what it wants, and where it looks
 module _ (mode : ControlMode) where
   abbrev About : Switch → Option Ask → Type 0
-  About p none = Unit {0}
-  About p (some ask) = (switch_want mode p ≡ read_want 10 ask) × (switch_place p ≡ Reply 10)
+  About p None = Unit {0}
+  About p (Some ask) = (switch_want mode p ≡ read_want 10 ask) × (switch_place p ≡ Reply 10)
 
   about : (p : Switch) → About p (mode_ask p)
   about Starting = tt
@@ -91,11 +91,11 @@ module _ (mode : ControlMode) where
   about (Begun p (SettleSleep n l)) = tt
   about (Begun p (Holding n)) = tt
 
-  pub in_read : (p : Switch) (ask : Ask) → mode_ask p ≡ some ask → (switch_want mode p ≡ read_want 10 ask) × (switch_place p ≡ Reply 10)
+  pub in_read : (p : Switch) (ask : Ask) → mode_ask p ≡ Some ask → (switch_want mode p ≡ read_want 10 ask) × (switch_place p ≡ Reply 10)
   in_read p ask e = subst (About p) e (about p)
 
   -- and only a read that is to be sent wants the send of a read of register 10
-  pub ask_of : (p : Switch) → wants_send reads_mode (some (switch_want mode p)) ≡ true → (o : Instant) × (mode_ask p ≡ some (Sending o))
+  pub ask_of : (p : Switch) → wants_send reads_mode (Some (switch_want mode p)) ≡ true → (o : Instant) × (mode_ask p ≡ Some (Sending o))
   unfolding wants_send reads_mode
   ask_of Starting e = absurd (true≢false (sym e))
   ask_of (Begun p (Remaining which)) e = absurd (true≢false (sym e))
@@ -130,15 +130,15 @@ same_mode (UInt32 m) n e = ap UInt32 (eqb-true m n e)
 module _ (mode : ControlMode) (timeout : Duration) (e : Entry) (a : Answer) where
   -- a read that is entered, by the read that was answered
   abbrev pub Entered : Option Ask → Option Ask → Type 0
-  Entered ask none = Unit {0}
-  Entered ask (some Opening) = Unit {0}
-  Entered ask (some (Sending o)) = (ask ≡ some Opening) × (reading_of a ≡ o)
-  Entered ask (some (Waiting w)) = (q : Ask) × (ask ≡ some q) × Since q a (wait_opening w)
+  Entered ask None = Unit {0}
+  Entered ask (Some Opening) = Unit {0}
+  Entered ask (Some (Sending o)) = (ask ≡ Some Opening) × (reading_of a ≡ o)
+  Entered ask (Some (Waiting w)) = (q : Ask) × (ask ≡ Some q) × Since q a (wait_opening w)
 
   -- done only by a look that found the mode
   pub record Saw (ask : Option Ask) : Type 0 where
     pub read : Ask
-    pub is : ask ≡ some read
+    pub is : ask ≡ Some read
     pub opening : Instant
     pub look : Look read a opening
     pub found : HoldsFresh opening e (mode_value mode)
@@ -159,50 +159,50 @@ module _ (mode : ControlMode) (timeout : Duration) (e : Entry) (a : Answer) wher
   not_yet_law ask (Verify zero) p = tt
   not_yet_law ask (Verify (suc n)) p = tt
 
-  finish_law : (n : ℕ) (p : Progress) (x : FinishNext) → Law none (after_finish n p x)
+  finish_law : (n : ℕ) (p : Progress) (x : FinishNext) → Law None (after_finish n p x)
   finish_law n p Finish.Holds = tt
   finish_law n p Finish.Done = tt
   finish_law n p (Finish.Failed failure) = tt
 
-  mode_read_law : (which : ModeRead) (p : Progress) (l : Duration) (ask : Ask) (x : ReadNext) → GetSaw Typed.UInt32 l e ask a x → Law (some ask) (after_mode_read mode which p l x)
+  mode_read_law : (which : ModeRead) (p : Progress) (l : Duration) (ask : Ask) (x : ReadNext) → GetSaw Typed.UInt32 l e ask a x → Law (Some ask) (after_mode_read mode which p l x)
   mode_read_law which p l ask (Read.Goes Opening) saw = tt
-  mode_read_law which p l ask (Read.Goes (Sending o)) law = (ap some law.0, law.1)
+  mode_read_law which p l ask (Read.Goes (Sending o)) law = (ap Some law.0, law.1)
   mode_read_law which p l ask (Read.Goes (Waiting w)) law = (ask, refl, law)
   mode_read_law which p l ask (Read.Got v) ((o, look, seen), typed) = go (same_value v (mode_value mode)) refl
     where
-      go : (b : Bool) → same_value v (mode_value mode) ≡ b → Law (some ask) (cond b Done (not_yet mode which (with_error p (Failure.Mismatch v))))
+      go : (b : Bool) → same_value v (mode_value mode) ≡ b → Law (Some ask) (cond b Done (not_yet mode which (with_error p (Failure.Mismatch v))))
       go true same = record { read = ask; is = refl; opening = o; look = look; found = subst (HoldsFresh o e) (same_mode v (mode_number mode) same) seen }
-      go false same = not_yet_law (some ask) which (with_error p (Failure.Mismatch v))
-  mode_read_law which p l ask (Read.Failed Failure.Timeout) law = not_yet_law (some ask) which (with_error p Failure.Timeout)
+      go false same = not_yet_law (Some ask) which (with_error p (Failure.Mismatch v))
+  mode_read_law which p l ask (Read.Failed Failure.Timeout) law = not_yet_law (Some ask) which (with_error p Failure.Timeout)
   mode_read_law which p l ask (Read.Failed (Failure.Mismatch v)) law = tt
   mode_read_law which p l ask (Read.Failed Failure.WrongType) law = tt
   mode_read_law which p l ask (Read.Failed Failure.SendFailed) law = tt
 
-  hold_read_law : (p : Progress) (l : Duration) (x : ReadNext) → Law none (after_prepare (after_hold_read p l x))
+  hold_read_law : (p : Progress) (l : Duration) (x : ReadNext) → Law None (after_prepare (after_hold_read p l x))
   hold_read_law p l (Read.Goes q) = tt
   hold_read_law p l (Read.Got v) = tt
   hold_read_law p l (Read.Failed failure) = tt
 
-  cleared_law : (c : ControlMode) (p : Progress) → Law none (after_prepare (cleared c p))
+  cleared_law : (c : ControlMode) (p : Progress) → Law None (after_prepare (cleared c p))
   cleared_law Mit p = tt
   cleared_law PosVel p = tt
   cleared_law Vel p = tt
   cleared_law ForcePos p = tt
 
-  written_law : (n : ℕ) (p : Progress) (x : WriteNext) → Law none (after_mode_write n p x)
+  written_law : (n : ℕ) (p : Progress) (x : WriteNext) → Law None (after_mode_write n p x)
   written_law n p (Written.Goes w) = tt
   written_law n p Written.Written = tt
   written_law n p (Written.Failed failure) = tt
 
-  mode_timed_law : (which : ModeRead) (p : Progress) (x : TimeLeft) → Law none (mode_timed which p x)
+  mode_timed_law : (which : ModeRead) (p : Progress) (x : TimeLeft) → Law None (mode_timed which p x)
   mode_timed_law which p Left.None = tt
   mode_timed_law which p (Left.Some l) = tt
 
-  hold_timed_law : (p : Progress) (x : TimeLeft) → Law none (after_prepare (hold_timed p x))
+  hold_timed_law : (p : Progress) (x : TimeLeft) → Law None (after_prepare (hold_timed p x))
   hold_timed_law p Left.None = tt
   hold_timed_law p (Left.Some l) = tt
 
-  settled_law : (n : ℕ) (p : Progress) (x : TimeLeft) → Law none (settled mode n p x)
+  settled_law : (n : ℕ) (p : Progress) (x : TimeLeft) → Law None (settled mode n p x)
   settled_law n p Left.None = finish_law n p (finish mode p.hold_position)
   settled_law n p (Left.Some l) = tt
 
@@ -231,11 +231,11 @@ module _ (mode : ControlMode) (timeout : Duration) (stamp : Instant) where
       ∙ ap (λ (b : Bool). cond b Done (not_yet mode which (with_error p (Failure.Mismatch (mode_value mode))))) (eq-eqb (mode_number mode) (mode_number mode) refl)
 
   abbrev pub EndsDone : Switch → Option Ask → Answer → Type 0
-  EndsDone p none a = Unit {0}
-  EndsDone p (some Opening) a = Unit {0}
-  EndsDone p (some (Sending o)) a = send_outcome a ≡ SendOutcome.Sent → o.0 ≤ stamp.0 → switch_step mode timeout holding_mode p a ≡ Done
-  EndsDone p (some (Waiting (Checking o))) a = Unit {0}
-  EndsDone p (some (Waiting (Napping o))) a = o.0 ≤ stamp.0 → switch_step mode timeout holding_mode p a ≡ Done
+  EndsDone p None a = Unit {0}
+  EndsDone p (Some Opening) a = Unit {0}
+  EndsDone p (Some (Sending o)) a = send_outcome a ≡ SendOutcome.Sent → o.0 ≤ stamp.0 → switch_step mode timeout holding_mode p a ≡ Done
+  EndsDone p (Some (Waiting (Checking o))) a = Unit {0}
+  EndsDone p (Some (Waiting (Napping o))) a = o.0 ≤ stamp.0 → switch_step mode timeout holding_mode p a ≡ Done
 
   pub ends_done : (p : Switch) (a : Answer) → EndsDone p (mode_ask p) a
   ends_done Starting a = tt
@@ -340,10 +340,10 @@ module _ (mode : ControlMode) (timeout : Duration) (e : Entry) (a : Answer) (o :
 
   -- from the send on
   abbrev SentQuiet : Switch → Option Ask → Type 0
-  SentQuiet p none = Unit {0}
-  SentQuiet p (some Opening) = Unit {0}
-  SentQuiet p (some (Sending x)) = x ≡ o → StaysQuiet (switch_step mode timeout e p a)
-  SentQuiet p (some (Waiting w)) = Unit {0}
+  SentQuiet p None = Unit {0}
+  SentQuiet p (Some Opening) = Unit {0}
+  SentQuiet p (Some (Sending x)) = x ≡ o → StaysQuiet (switch_step mode timeout e p a)
+  SentQuiet p (Some (Waiting w)) = Unit {0}
 
   sent_quiet : (p : Switch) → SentQuiet p (mode_ask p)
   sent_quiet Starting = tt
@@ -359,7 +359,7 @@ module _ (mode : ControlMode) (timeout : Duration) (e : Entry) (a : Answer) (o :
   sent_quiet (Begun p (SettleSleep n l)) = tt
   sent_quiet (Begun p (Holding n)) = tt
 
-  pub sending_quiet : (p : Switch) → mode_ask p ≡ some (Sending o) → StaysQuiet (switch_step mode timeout e p a)
+  pub sending_quiet : (p : Switch) → mode_ask p ≡ Some (Sending o) → StaysQuiet (switch_step mode timeout e p a)
   sending_quiet p is = subst (SentQuiet p) is (sent_quiet p) refl
 
   pub stays_quiet : (p : Switch) → Quiet o p → (WantsSend (switch_want mode p) → ⊥) → StaysQuiet (switch_step mode timeout e p a)
@@ -381,13 +381,13 @@ module _ (mode : ControlMode) (timeout : Duration) (e : Entry) (a : Answer) (o :
   stays_quiet (Begun p (Holding n)) quiet silent = absurd quiet
 
 -- in it only the read's own wait sleeps
-pub quiet_sleep : (mode : ControlMode) (o : Instant) (p : Switch) → Quiet o p → fits (switch_want mode p) Slept ≡ true → mode_ask p ≡ some (Waiting (Napping o))
+pub quiet_sleep : (mode : ControlMode) (o : Instant) (p : Switch) → Quiet o p → fits (switch_want mode p) Slept ≡ true → mode_ask p ≡ Some (Waiting (Napping o))
 quiet_sleep mode o Starting quiet f = absurd quiet
 quiet_sleep mode o (Begun p (Remaining which)) quiet f = absurd quiet
 quiet_sleep mode o (Begun p (Reading which l Opening)) quiet f = absurd quiet
 quiet_sleep mode o (Begun p (Reading which l (Sending x))) quiet f = absurd quiet
 quiet_sleep mode o (Begun p (Reading which l (Waiting (Checking x)))) quiet f = absurd (true≢false (sym f))
-quiet_sleep mode o (Begun p (Reading which l (Waiting (Napping x)))) quiet f = ap (λ (i : Instant). some (Waiting (Napping i))) quiet
+quiet_sleep mode o (Begun p (Reading which l (Waiting (Napping x)))) quiet f = ap (λ (i : Instant). Some (Waiting (Napping i))) quiet
 quiet_sleep mode o (Begun p HoldRemaining) quiet f = absurd (true≢false (sym f))
 quiet_sleep mode o (Begun p (HoldReading l Opening)) quiet f = absurd (true≢false (sym f))
 quiet_sleep mode o (Begun p (HoldReading l (Sending x))) quiet f = absurd (true≢false (sym f))

@@ -1,8 +1,8 @@
 -- Where each sleep of a switch moves the clock on, its readings are fine for the laws of its definition. Assumes nothing.
+use Rattle.std.specs.Prelude.{None, Option, Some}
 use Prim.Native.Nat.{◌≤◌}
 use mathlib.Core.Path.{◌≡◌, refl, sym}
 use mathlib.Core.Bool.{true, true≢false}
-use mathlib.Core.Option.{Option, none, some}
 use native.Mathlib.Omega.{arith}
 use Rattle.time.specs.declared.Instant.{Instant}
 use Rattle.time.proofs.Readings.{between}
@@ -19,12 +19,12 @@ use Rattle.law_switch.specs.Claim.{reading_or, Moves}
 
 -- the run's last reading is no later than the session's
 abbrev pub Behind : Option Instant → Instant → Type 0
-Behind none l = Unit {0}
-Behind (some r) l = r.0 ≤ l.0
+Behind None l = Unit {0}
+Behind (Some r) l = r.0 ≤ l.0
 
 -- the sleeps since then move the clock on up to the next reading
 abbrev pub Pending : Known → Option Instant → Type 0
-Pending k next = (r t : Instant) → k.last ≡ some r → next ≡ some t → Moved r k.naps t
+Pending k next = (r t : Instant) → k.last ≡ Some r → next ≡ Some t → Moved r k.naps t
 
 -- an answer: its reading is fine, and so it goes on
 pub record Goes_on (w : Want) (a : Answer) (k : Known) (h : Head) (next : Option Instant) : Type 0 where
@@ -38,15 +38,15 @@ module _ (told_by : Head) (k : Known) (l : Instant) (h : Head) (since : l.0 ≤ 
   still_behind = go k.last behind
     where
       go : (o : Option Instant) → Behind o l → Behind o h.last
-      go none b = tt
-      go (some r) b = omega arith
+      go None b = tt
+      go (Some r) b = omega arith
 
-  later : (t : Instant) → h.last.0 ≤ t.0 → Pending k (some t) → Later k.last k.naps t
+  later : (t : Instant) → h.last.0 ≤ t.0 → Pending k (Some t) → Later k.last k.naps t
   later t forward pending = go k.last still_behind (λ r e. pending r t e refl)
     where
-      go : (o : Option Instant) → Behind o h.last → ((r : Instant) → o ≡ some r → Moved r k.naps t) → Later o k.naps t
-      go none b m = tt
-      go (some r) b m = (omega arith, m r refl)
+      go : (o : Option Instant) → Behind o h.last → ((r : Instant) → o ≡ Some r → Moved r k.naps t) → Later o k.naps t
+      go None b m = tt
+      go (Some r) b m = (omega arith, m r refl)
 
   pub goes_on : (w : Want) (a : Answer) → fits w a ≡ true → answer_accepted h.last a ≡ true → Pending k (reading_or a next) → Moves k.last (Told.Want (caller_want told_by w)) (reading_or a next) → Goes_on w a k h next
   unfolding reading_or Moved

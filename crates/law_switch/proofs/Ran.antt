@@ -1,9 +1,9 @@
 -- How a switch ran: each of its turns is one step of its definition, whatever stands between them in the list. Assumes nothing.
+use Rattle.std.specs.Prelude.{None, Some}
 use Prim.Native.Nat.{◌≤◌, ◌^◌}
 use mathlib.Core.Path.{◌≡◌, refl, sym, ap, ◌∙◌, subst}
 use mathlib.Core.Bool.{true}
 use mathlib.Core.List.{List, [], ◌∷◌}
-use mathlib.Core.Option.{none, some}
 use native.Mathlib.Nat.{le_refl}
 use native.Mathlib.Omega.{arith}
 use Rattle.time.specs.declared.Instant.{Instant}
@@ -61,10 +61,10 @@ module _ (h : Head) (mode : ControlMode) (timeout : Duration) where
 
   -- what a phase gives, and a result
   abbrev pub gave_want : Switch → Gave
-  gave_want p = record { told = Told.Want (caller_want h (switch_want mode p)); wants = some (switch_want mode p) }
+  gave_want p = record { told = Told.Want (caller_want h (switch_want mode p)); wants = Some (switch_want mode p) }
 
   abbrev pub gave_result : RunResult → Gave
-  gave_result r = record { told = Told.Result r; wants = none }
+  gave_result r = record { told = Told.Result r; wants = None }
 
   -- an answer is taken in the phase `p`, no earlier than `l`
   pub record Took (p : Switch) (l : Instant) (t : Turn) : Type 0 where
@@ -162,7 +162,7 @@ module _ (h : Head) (mode : ControlMode) (timeout : Duration) where
       abbrev took : (g : Gave) → Took p s.head.last (turn g)
       took g = record { head = s.head; entry = entry s; since = le_refl _; fit = fit; accepted = accepted; sees = looked_at }
 
-      turn_wanted : (k : Head) (w : Want) (ts : List Turn) → turn_in a (mode_entry s) (some w) (Told.Want (caller_want k w)) ts ≡ turn (record { told = Told.Want (caller_want k w); wants = some w }) ∷ ts
+      turn_wanted : (k : Head) (w : Want) (ts : List Turn) → turn_in a (mode_entry s) (Some w) (Told.Want (caller_want k w)) ts ≡ turn (record { told = Told.Want (caller_want k w); wants = Some w }) ∷ ts
       unfolding turn_in
       turn_wanted k w ts = refl
 
@@ -176,10 +176,10 @@ module _ (h : Head) (mode : ControlMode) (timeout : Duration) where
           let k = after_sound (Goes q) e in
           let z = session_after r.session cs in
           let ts = turns (mode_entry s) (events r.session cs) in
-          let g : Gave = record { told = Told.Want (caller_want r.session.head (switch_want mode q)); wants = some (switch_want mode q) } in
+          let g : Gave = record { told = Told.Want (caller_want r.session.head (switch_want mode q)); wants = Some (switch_want mode q) } in
           subst (λ (ts : List Turn). Ran z p s.head.last ts) (sym (turn_wanted r.session.head (switch_want mode q) ts))
           (by_step z p s.head.last (turn g) ts (took g) (Goes q) e
-          (ap (λ (w : Wanted). record { told = Told.Want w; wants = some (switch_want mode q) }) (same_told r.session.head h (switch_want mode q) k.motor_id k.limits), rest r.session q refl k))
+          (ap (λ (w : Wanted). record { told = Told.Want w; wants = Some (switch_want mode q) }) (same_told r.session.head h (switch_want mode q) k.motor_id k.limits), rest r.session q refl k))
 
       taken_ran : (x : SwitchNext) → next ≡ x → Came cs s p a (came_to x)
       unfolding turn_in

@@ -1,8 +1,8 @@
 -- What every call keeps of a session, and the reply of register 10 that it leaves. Assumes nothing.
+use Rattle.std.specs.Prelude.{None, Option, Some}
 use Prim.Native.Nat.{ℕ, ◌≤◌, ◌^◌}
 use mathlib.Core.Path.{◌≡◌, refl, sym, ap, ◌∙◌, subst}
 use mathlib.Core.List.{List, [], ◌∷◌}
-use mathlib.Core.Option.{Option, none, some}
 use lib.ListN.{length}
 use Rattle.motor_core.specs.declared.bus.CanFrame.{CanFrame}
 use Rattle.motor_core.specs.declared.model.PvTLimits.{PvTLimits}
@@ -118,8 +118,8 @@ module _ (h : Head) (s : Session) (sound : Sound h s) where
       go Class.Feedback = refl
 
   with_reply : (v : Option RegisterValue) (t : Instant) (slot : Slot) → (slot_with v t slot).entry ≡ replied slot.entry t v
-  with_reply none t slot = refl
-  with_reply (some value) t slot = refl
+  with_reply None t slot = refl
+  with_reply (Some value) t slot = refl
 
   pub frame_entry : (f : CanFrame) (t : Instant) → mode_entry (take_frame s f t).session ≡ taken_in (mode_entry s) f t (Returned.frame (take_frame s f t).outcome)
   unfolding take_frame taken_in

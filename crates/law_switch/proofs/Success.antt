@@ -1,10 +1,10 @@
 -- A switch is done exactly where a look of its last read of register 10 found the mode. Assumes nothing.
+use Rattle.std.specs.Prelude.{None, Option, Some}
 use Prim.Native.Nat.{ℕ, ◌+◌, ◌≤◌}
 use mathlib.Core.Path.{◌≡◌, refl, sym, ap, ◌∙◌, subst}
 use mathlib.Core.Bool.{Bool, true, true≢false}
 use mathlib.Core.Logic.{◌⊎◌, inl, inr}
 use mathlib.Core.List.{List, [], ◌∷◌, ◌++◌}
-use mathlib.Core.Option.{Option, none, some}
 use native.Mathlib.Omega.{arith}
 use Rattle.time.specs.declared.Instant.{Instant}
 use Rattle.time.specs.declared.Duration.{Duration}
@@ -49,7 +49,7 @@ use Rattle.law_switch.proofs.Told.{reads_alike}
 use Rattle.law_switch.proofs.Traced.{none≢some, want_on, end_of}
 
 -- an answer of the kind that is wanted
-pub clock_read : (r : Option Instant) (a : Answer) → fits Clock a ≡ true → reading_or a r ≡ some (reading_of a)
+pub clock_read : (r : Option Instant) (a : Answer) → fits Clock a ≡ true → reading_or a r ≡ Some (reading_of a)
 unfolding reading_or
 clock_read r (Answer.Reading t) f = refl
 clock_read r (Answer.Send result) f = absurd (true≢false (sym f))
@@ -80,10 +80,10 @@ is_slept Answer.Slept d f = refl
 -- ---- of options, results, lists and sums
 
 abbrev or_else : Instant → Option Instant → Instant
-or_else i none = i
-or_else i (some o) = o
+or_else i None = i
+or_else i (Some o) = o
 
-not_done : (failure : Failure) → some (Result.Failed failure) ≡ some Result.Done → ⊥
+not_done : (failure : Failure) → Some (Result.Failed failure) ≡ Some Result.Done → ⊥
 not_done failure e = subst IsDone (sym e) tt
   where
     done : RunResult → Type 0
@@ -94,8 +94,8 @@ not_done failure e = subst IsDone (sym e) tt
     done (Result.Failed x) = ⊥
 
     IsDone : Option RunResult → Type 0
-    IsDone none = ⊥
-    IsDone (some r) = done r
+    IsDone None = ⊥
+    IsDone (Some r) = done r
 
 abbrev EmptyList : List Turn → Type 0
 EmptyList [] = Unit {0}
@@ -139,29 +139,29 @@ module _ (h : Head) (mode : ControlMode) (timeout : Duration) where
   sends_in g = once (sending g)
 
   -- what a read that is sent wants is a read of register 10
-  pub is_read : (p : Switch) (o : Instant) → mode_ask p ≡ some (Sending o) → mode_read motor (want_of p) ≡ true
+  pub is_read : (p : Switch) (o : Instant) → mode_ask p ≡ Some (Sending o) → mode_read motor (want_of p) ≡ true
   unfolding wants_send reads_mode
-  is_read p o e = reads_alike h mode p ∙ ap (λ (w : Want). wants_send reads_mode (some w)) (in_read mode p (Sending o) e).0
+  is_read p o e = reads_alike h mode p ∙ ap (λ (w : Want). wants_send reads_mode (Some w)) (in_read mode p (Sending o) e).0
 
   -- and what it wants in its wait is no send
-  no_read : (w : Want) (x : Wait) → w ≡ wait_want x → reads_in (record { told = Told.Want (caller_want h w); wants = some w }) ≡ 0
+  no_read : (w : Want) (x : Wait) → w ≡ wait_want x → reads_in (record { told = Told.Want (caller_want h w); wants = Some w }) ≡ 0
   unfolding a_want send_to wants_send
-  no_read w (Checking o) e = ap (λ (w : Want). reads_in (record { told = Told.Want (caller_want h w); wants = some w })) e
-  no_read w (Napping o) e = ap (λ (w : Want). reads_in (record { told = Told.Want (caller_want h w); wants = some w })) e
+  no_read w (Checking o) e = ap (λ (w : Want). reads_in (record { told = Told.Want (caller_want h w); wants = Some w })) e
+  no_read w (Napping o) e = ap (λ (w : Want). reads_in (record { told = Told.Want (caller_want h w); wants = Some w })) e
 
-  no_send : (w : Want) (x : Wait) → w ≡ wait_want x → sends_in (record { told = Told.Want (caller_want h w); wants = some w }) ≡ 0
+  no_send : (w : Want) (x : Wait) → w ≡ wait_want x → sends_in (record { told = Told.Want (caller_want h w); wants = Some w }) ≡ 0
   unfolding a_want send_to
-  no_send w (Checking o) e = ap (λ (w : Want). sends_in (record { told = Told.Want (caller_want h w); wants = some w })) e
-  no_send w (Napping o) e = ap (λ (w : Want). sends_in (record { told = Told.Want (caller_want h w); wants = some w })) e
+  no_send w (Checking o) e = ap (λ (w : Want). sends_in (record { told = Told.Want (caller_want h w); wants = Some w })) e
+  no_send w (Napping o) e = ap (λ (w : Want). sends_in (record { told = Told.Want (caller_want h w); wants = Some w })) e
 
   -- a read that is sent opened with the last reading
   abbrev pub Opened : Option Instant → Switch → Type 0
-  Opened r p = (o : Instant) → mode_ask p ≡ some (Sending o) → r ≡ some o
+  Opened r p = (o : Instant) → mode_ask p ≡ Some (Sending o) → r ≡ Some o
 
   pub opened_on : (p q : Switch) (r : Option Instant) (e : Entry) (a : Answer) → fits (switch_want mode p) a ≡ true → switch_step mode timeout e p a ≡ Goes q → Opened (reading_or a r) q
   opened_on p q r e a f goes o is =
-      let entered : Entered mode timeout e a (mode_ask p) (some (Sending o)) = subst (λ (x : Option Ask). Entered mode timeout e a (mode_ask p) x) is (law goes) in
-      clock_read r a (subst (λ (w : Want). fits w a ≡ true) (in_read mode p Opening entered.0).0 f) ∙ ap some entered.1
+      let entered : Entered mode timeout e a (mode_ask p) (Some (Sending o)) = subst (λ (x : Option Ask). Entered mode timeout e a (mode_ask p) x) is (law goes) in
+      clock_read r a (subst (λ (w : Want). fits w a ≡ true) (in_read mode p Opening entered.0).0 f) ∙ ap Some entered.1
     where
       law : switch_step mode timeout e p a ≡ Goes q → Entered mode timeout e a (mode_ask p) (mode_ask q)
       law goes = subst (λ (x : SwitchNext). Law mode timeout e a (mode_ask p) x) goes (switch_law mode timeout e a p)
@@ -182,7 +182,7 @@ module _ (h : Head) (mode : ControlMode) (timeout : Duration) where
     fresh : o.0 ≤ stamp.0
 
   abbrev Sought : Option Instant → Switch → List Turn → Type 0
-  Sought r p ts = Succeeds r (want_of p) ts ⊎ ((w : Wait) × (mode_ask p ≡ some (Waiting w)) × InWait (wait_opening w) ts)
+  Sought r p ts = Succeeds r (want_of p) ts ⊎ ((w : Wait) × (mode_ask p ≡ Some (Waiting w)) × InWait (wait_opening w) ts)
 
   extend : (r : Option Instant) (g : Gave) (t : Turn) (ts : List Turn) → Succeeds (reading_or t.answer r) t.gave ts → Succeeds r g (t ∷ ts)
   unfolding gave_after reading_after
@@ -210,7 +210,7 @@ module _ (h : Head) (mode : ControlMode) (timeout : Duration) where
     law x e = subst (λ (x : SwitchNext). Law mode timeout k.entry t.answer (mode_ask p) x) e (switch_law mode timeout k.entry t.answer p)
 
     -- what comes after, in the wait
-    seek_waited : (q : Switch) (w : Wait) → t.gave ≡ want_of q → mode_ask q ≡ some (Waiting w) → InWait (wait_opening w) ts → (ask : Ask) → mode_ask p ≡ some ask → Since ask t.answer (wait_opening w) → Sought r p (t ∷ ts)
+    seek_waited : (q : Switch) (w : Wait) → t.gave ≡ want_of q → mode_ask q ≡ Some (Waiting w) → InWait (wait_opening w) ts → (ask : Ask) → mode_ask p ≡ Some ask → Since ask t.answer (wait_opening w) → Sought r p (t ∷ ts)
     unfolding gave_after reading_after gaves count Looks
     seek_waited q w gave is x Opening at since = absurd since
     seek_waited q w gave is x (Sending o) at since =
@@ -224,7 +224,7 @@ module _ (h : Head) (mode : ControlMode) (timeout : Duration) where
           whole = ap (λ (ts : List Turn). t ∷ ts) x.whole;
           read = is_read p o at;
           is_last = λ i. (ap reads_in gave ∙ no_read (switch_want mode q) w (in_read mode q (Waiting w) is).0) i + x.last i;
-          opens = opened o at ∙ ap some since.0;
+          opens = opened o at ∙ ap Some since.0;
           looks = (
             is_sent t.answer (switch_want mode p) k.fit (in_read mode p (Sending o) at).0 since.1,
             λ i. (ap sends_in gave ∙ no_send (switch_want mode q) w (in_read mode q (Waiting w) is).0) i + x.silent i,
@@ -254,11 +254,11 @@ module _ (h : Head) (mode : ControlMode) (timeout : Duration) where
     seek_goes : (q : Switch) → next ≡ Goes q → t.gave ≡ want_of q → Sought (reading_or t.answer r) q ts → Sought r p (t ∷ ts)
     seek_goes q e gave (inl f) = inl (extend r (want_of p) t ts (subst (λ (g : Gave). Succeeds (reading_or t.answer r) g ts) (sym gave) f))
     seek_goes q e gave (inr (w, is, x)) =
-        let entered : Entered mode timeout k.entry t.answer (mode_ask p) (some (Waiting w)) = subst (λ (o : Option Ask). Entered mode timeout k.entry t.answer (mode_ask p) o) is (law (Goes q) e) in
+        let entered : Entered mode timeout k.entry t.answer (mode_ask p) (Some (Waiting w)) = subst (λ (o : Option Ask). Entered mode timeout k.entry t.answer (mode_ask p) o) is (law (Goes q) e) in
         seek_waited q w gave is x entered.0 entered.1 entered.2
 
     -- where it ends
-    seek_look : (ask : Ask) (o stamp : Instant) → t.gave ≡ gave_result h mode timeout Result.Done → ts ≡ [] → mode_ask p ≡ some ask → Look ask t.answer o → k.entry ≡ Held (mode_value mode) stamp → o.0 ≤ stamp.0 → Sought r p (t ∷ ts)
+    seek_look : (ask : Ask) (o stamp : Instant) → t.gave ≡ gave_result h mode timeout Result.Done → ts ≡ [] → mode_ask p ≡ Some ask → Look ask t.answer o → k.entry ≡ Held (mode_value mode) stamp → o.0 ≤ stamp.0 → Sought r p (t ∷ ts)
     unfolding gave_after reading_after gaves count Looks a_want send_to
     seek_look Opening o stamp gave stop at look holds fresh = absurd look
     seek_look (Sending x) o stamp gave stop at look holds fresh =
@@ -272,7 +272,7 @@ module _ (h : Head) (mode : ControlMode) (timeout : Duration) where
           whole = refl;
           read = is_read p x at;
           is_last = λ i. ap reads_in gave i + ap (λ (ts : List Turn). count (mode_read motor) (gaves ts)) stop i;
-          opens = opened x at ∙ ap some look.0;
+          opens = opened x at ∙ ap Some look.0;
           looks = is_sent t.answer (switch_want mode p) k.fit (in_read mode p (Sending x) at).0 look.1;
           finds = sym (k.sees (in_read mode p (Sending x) at).1) ∙ holds;
           fresh = omega (arith, fresh);
@@ -301,36 +301,36 @@ module _ (h : Head) (mode : ControlMode) (timeout : Duration) where
         let s : Saw mode timeout k.entry t.answer (mode_ask p) = law Done e in
         seek_look s.read s.opening s.found.stamp gave stop s.is s.look s.found.holds s.found.fresh
 
-    onward_sought : (R : Switch → Type 0) → ((q : Switch) → R q → Opened (reading_or t.answer r) q → result_of ts ≡ some Result.Done → Sought (reading_or t.answer r) q ts)
-        → (x : SwitchNext) → next ≡ x → Onward h mode timeout R x t ts → result_of (t ∷ ts) ≡ some Result.Done → Sought r p (t ∷ ts)
+    onward_sought : (R : Switch → Type 0) → ((q : Switch) → R q → Opened (reading_or t.answer r) q → result_of ts ≡ Some Result.Done → Sought (reading_or t.answer r) q ts)
+        → (x : SwitchNext) → next ≡ x → Onward h mode timeout R x t ts → result_of (t ∷ ts) ≡ Some Result.Done → Sought r p (t ∷ ts)
     onward_sought R rest (Goes q) e (gave, ran) done = seek_goes q e gave (rest q ran (opened_on p q r k.entry t.answer k.fit e) (sym (want_on h mode timeout t ts q gave) ∙ done))
     onward_sought R rest Done e (gave, stop) done = seek_done e gave stop
     onward_sought R rest (Failed failure) e (gave, stop) done = absurd (not_done failure (sym (end_of h mode timeout t ts (Result.Failed failure) gave) ∙ done))
 
-  sought : (z : Session) (ts : List Turn) (p : Switch) (l : Instant) (r : Option Instant) → Ran h mode timeout z p l ts → Opened r p → result_of ts ≡ some Result.Done → Sought r p ts
+  sought : (z : Session) (ts : List Turn) (p : Switch) (l : Instant) (r : Option Instant) → Ran h mode timeout z p l ts → Opened r p → result_of ts ≡ Some Result.Done → Sought r p ts
   unfolding Ran result_of
-  sought z [] p l r ran opened done = absurd (none≢some done)
+  sought z [] p l r ran opened done = absurd (None≢Some done)
   sought z (t ∷ ts) p l r (k, on) opened done =
       let l' = (with_reading k.head t.answer).last in
       onward_sought p l r opened t ts k (λ q. Ran h mode timeout z q l' ts) (λ q ran o d. sought z ts q l' (reading_or t.answer r) ran o d) (switch_step mode timeout k.entry p t.answer) refl on done
 
   -- from the start on
-  pub done_found : (z : Session) (ts : List Turn) (l : Instant) → Ran h mode timeout z Starting l ts → result_of ts ≡ some Result.Done → Succeeds none (want_of Starting) ts
-  done_found z ts l ran done = go (sought z ts Starting l none ran (λ o e. absurd (none≢some e)) done)
+  pub done_found : (z : Session) (ts : List Turn) (l : Instant) → Ran h mode timeout z Starting l ts → result_of ts ≡ Some Result.Done → Succeeds None (want_of Starting) ts
+  done_found z ts l ran done = go (sought z ts Starting l None ran (λ o e. absurd (None≢Some e)) done)
     where
-      go : Sought none Starting ts → Succeeds none (want_of Starting) ts
+      go : Sought None Starting ts → Succeeds None (want_of Starting) ts
       go (inl f) = f
-      go (inr (w, e, x)) = absurd (none≢some e)
+      go (inr (w, e, x)) = absurd (None≢Some e)
 
   -- ---- found, so done
 
-  silent_want : (w : Want) → sends_in (record { told = Told.Want (caller_want h w); wants = some w }) ≡ 0 → WantsSend w → ⊥
+  silent_want : (w : Want) → sends_in (record { told = Told.Want (caller_want h w); wants = Some w }) ≡ 0 → WantsSend w → ⊥
   unfolding a_want send_to
   silent_want Clock e s = s
   silent_want (Send message) e s = omega arith
   silent_want (Sleep length) e s = s
 
-  reads_at : (p : Switch) → mode_read motor (want_of p) ≡ true → (o : Instant) × (mode_ask p ≡ some (Sending o))
+  reads_at : (p : Switch) → mode_read motor (want_of p) ≡ true → (o : Instant) × (mode_ask p ≡ Some (Sending o))
   reads_at p e = ask_of mode p (sym (reads_alike h mode p) ∙ e)
 
   module _ (z : Session) where
@@ -357,23 +357,23 @@ module _ (h : Head) (mode : ControlMode) (timeout : Duration) where
 
     -- the look
     module _ (look : Turn) (later : List Turn) (o stamp : Instant) (finds : look.sees ≡ Held (UInt32 number) stamp) (fresh : o.0 ≤ stamp.0) where
-      look_ends : (p : Switch) (l : Instant) → Runs p l (look ∷ later) → switch_place p ≡ Reply 10 → switch_step mode timeout (Held (mode_value mode) stamp) p look.answer ≡ Done → result_of (look ∷ later) ≡ some Result.Done
+      look_ends : (p : Switch) (l : Instant) → Runs p l (look ∷ later) → switch_place p ≡ Reply 10 → switch_step mode timeout (Held (mode_value mode) stamp) p look.answer ≡ Done → result_of (look ∷ later) ≡ Some Result.Done
       unfolding Ran
       look_ends p l (k, on) place done =
           let e : switch_step mode timeout k.entry p look.answer ≡ Done = ap (λ (e : Entry). switch_step mode timeout e p look.answer) (k.sees place ∙ finds) ∙ done in
           let ended = subst (λ (x : SwitchNext). Onward h mode timeout (λ q. Runs q (with_reading k.head look.answer).last later) x look later) e on in
           end_of h mode timeout look later Result.Done ended.0
 
-      sent_done : (p : Switch) (l : Instant) → Runs p l (look ∷ later) → mode_ask p ≡ some (Sending o) → look.answer ≡ Answer.Send SendResult.Sent → result_of (look ∷ later) ≡ some Result.Done
+      sent_done : (p : Switch) (l : Instant) → Runs p l (look ∷ later) → mode_ask p ≡ Some (Sending o) → look.answer ≡ Answer.Send SendResult.Sent → result_of (look ∷ later) ≡ Some Result.Done
       sent_done p l ran at sent =
           look_ends p l ran (in_read mode p (Sending o) at).1 (subst (λ (x : Option Ask). EndsDone mode timeout stamp p x look.answer) at (ends_done mode timeout stamp p look.answer) (ap send_outcome sent) fresh)
 
-      slept_done : (p : Switch) (l : Instant) → Runs p l (look ∷ later) → mode_ask p ≡ some (Waiting (Napping o)) → result_of (look ∷ later) ≡ some Result.Done
+      slept_done : (p : Switch) (l : Instant) → Runs p l (look ∷ later) → mode_ask p ≡ Some (Waiting (Napping o)) → result_of (look ∷ later) ≡ Some Result.Done
       slept_done p l ran at =
           look_ends p l ran (in_read mode p (Waiting (Napping o)) at).1 (subst (λ (x : Option Ask). EndsDone mode timeout stamp p x look.answer) at (ends_done mode timeout stamp p look.answer) fresh)
 
       module _ (slept : look.answer ≡ Answer.Slept) where
-        quiet_done : (us : List Turn) (p : Switch) (l : Instant) → Runs p l (us ++ (look ∷ later)) → Quiet o p → sends_in (want_of p) ≡ 0 → count sending (gaves us) ≡ 0 → result_of (us ++ (look ∷ later)) ≡ some Result.Done
+        quiet_done : (us : List Turn) (p : Switch) (l : Instant) → Runs p l (us ++ (look ∷ later)) → Quiet o p → sends_in (want_of p) ≡ 0 → count sending (gaves us) ≡ 0 → result_of (us ++ (look ∷ later)) ≡ Some Result.Done
         unfolding Ran gaves count
         quiet_done [] p l ran quiet silent none_sent =
             slept_done p l ran (quiet_sleep mode o p quiet (subst (λ (a : Answer). fits (switch_want mode p) a ≡ true) slept ran.0.fit))
@@ -385,7 +385,7 @@ module _ (h : Head) (mode : ControlMode) (timeout : Duration) where
             (sym (ap sends_in gave) ∙ first_zero (sends_in u.gave) _ none_sent) (rest_zero (sends_in u.gave) _ none_sent))
             (λ r e gave stop. absurd (not_empty us look later stop))
 
-        waited_done : (u : Turn) (us : List Turn) (p : Switch) (l : Instant) → Runs p l (u ∷ (us ++ (look ∷ later))) → mode_ask p ≡ some (Sending o) → count sending (gaves (u ∷ us)) ≡ 0 → result_of (u ∷ (us ++ (look ∷ later))) ≡ some Result.Done
+        waited_done : (u : Turn) (us : List Turn) (p : Switch) (l : Instant) → Runs p l (u ∷ (us ++ (look ∷ later))) → mode_ask p ≡ Some (Sending o) → count sending (gaves (u ∷ us)) ≡ 0 → result_of (u ∷ (us ++ (look ∷ later))) ≡ Some Result.Done
         unfolding Ran gaves count
         waited_done u us p l (k, on) at none_sent =
             onward_cases h mode timeout (λ q. Runs q (with_reading k.head u.answer).last (us ++ (look ∷ later))) u (us ++ (look ∷ later)) (switch_step mode timeout k.entry p u.answer) on
@@ -394,7 +394,7 @@ module _ (h : Head) (mode : ControlMode) (timeout : Duration) where
             (sym (ap sends_in gave) ∙ first_zero (sends_in u.gave) _ none_sent) (rest_zero (sends_in u.gave) _ none_sent))
             (λ r e gave stop. absurd (not_empty us look later stop))
 
-    pub found_done : (ts : List Turn) (p : Switch) (l : Instant) (r : Option Instant) → Runs p l ts → Opened r p → Succeeds r (want_of p) ts → result_of ts ≡ some Result.Done
+    pub found_done : (ts : List Turn) (p : Switch) (l : Instant) (r : Option Instant) → Runs p l ts → Opened r p → Succeeds r (want_of p) ts → result_of ts ≡ Some Result.Done
     unfolding Looks
     found_done ts p l r ran opened f =
         let ts' = f.waited ++ (f.look ∷ f.later) in
@@ -402,8 +402,8 @@ module _ (h : Head) (mode : ControlMode) (timeout : Duration) where
         let reached = x.0 in
         let at = reads_at reached.at (ap (mode_read motor) (sym reached.gave) ∙ f.read) in
         let same : at.0 ≡ f.opening = ap (or_else f.opening) (sym (reached.opened at.0 at.1) ∙ f.opens) in
-        ap result_of f.whole ∙ x.1 ∙ go f.waited reached.at reached.from reached.ran (at.1 ∙ ap (λ (o : Instant). some (Sending o)) same) f.looks
+        ap result_of f.whole ∙ x.1 ∙ go f.waited reached.at reached.from reached.ran (at.1 ∙ ap (λ (o : Instant). Some (Sending o)) same) f.looks
       where
-        go : (us : List Turn) (q : Switch) (l : Instant) → Runs q l (us ++ (f.look ∷ f.later)) → mode_ask q ≡ some (Sending f.opening) → Looks us f.look.answer → result_of (us ++ (f.look ∷ f.later)) ≡ some Result.Done
+        go : (us : List Turn) (q : Switch) (l : Instant) → Runs q l (us ++ (f.look ∷ f.later)) → mode_ask q ≡ Some (Sending f.opening) → Looks us f.look.answer → result_of (us ++ (f.look ∷ f.later)) ≡ Some Result.Done
         go [] q l ran at looks = sent_done f.look f.later f.opening f.stamp f.finds f.fresh q l ran at looks
         go (u ∷ us) q l ran at looks = waited_done f.look f.later f.opening f.stamp f.finds f.fresh looks.2 u us q l ran at looks.1

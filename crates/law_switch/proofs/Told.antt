@@ -1,10 +1,10 @@
 -- What a phase gives, as the claim counts it, is what the phase wants. Assumes nothing.
+use Rattle.std.specs.Prelude.{Some}
 use Prim.Native.Nat.{ℕ, ◌/◌, ◌^◌}
 use mathlib.Core.Path.{◌≡◌, refl, sym, ap, ◌∙◌, subst}
 use mathlib.Core.Bool.{Bool, true, false, not, ◌&&◌, ◌||◌, true≢false}
 use mathlib.Core.Logic.{◌⊎◌, inl, inr}
 use native.Mathlib.Omega.{arith}
-use mathlib.Core.Option.{some}
 use borrow.Author.Tests.{eqb-true, eq-eqb}
 use lib.Dec.{eqb}
 use Rattle.registers.specs.Value.{bits_of}
@@ -164,17 +164,17 @@ module _ (h : Head) where
   sleeps_count (Sleep length) = refl
 
   -- a want that is a send of such a message, by the weight of its command
-  weight : (of : Message → Bool) (heavy : Label → ℕ) → ((m : Message) → once (of m) ≡ heavy (label m)) → (w : Want) → once (wants_send of (some w)) ≡ counted 0 heavy 0 w
+  weight : (of : Message → Bool) (heavy : Label → ℕ) → ((m : Message) → once (of m) ≡ heavy (label m)) → (w : Want) → once (wants_send of (Some w)) ≡ counted 0 heavy 0 w
   unfolding wants_send
   weight of heavy weighs Clock = refl
   weight of heavy weighs (Send message) = weighs message
   weight of heavy weighs (Sleep length) = refl
 
-  pub sends_weight : (w : Want) → once (wants_send any (some w)) ≡ counted 0 each 0 w
+  pub sends_weight : (w : Want) → once (wants_send any (Some w)) ≡ counted 0 each 0 w
   unfolding any
   sends_weight = weight any each (λ m. refl)
 
-  pub sleeps_weight : (w : Want) → once (wants_sleep (some w)) ≡ counted 0 (λ command. 0) 1 w
+  pub sleeps_weight : (w : Want) → once (wants_sleep (Some w)) ≡ counted 0 (λ command. 0) 1 w
   unfolding wants_sleep
   sleeps_weight Clock = refl
   sleeps_weight (Send message) = refl
@@ -182,19 +182,19 @@ module _ (h : Head) where
 
   -- what a want gives
   abbrev gives : Want → Gave
-  gives w = record { told = Told.Want (caller_want h w); wants = some w }
+  gives w = record { told = Told.Want (caller_want h w); wants = Some w }
 
   abbrev motor : ℕ
   motor = h.motor_id
 
-  reads_own : (mode : ControlMode) (w : Want) → Own mode w → mode_read motor (gives w) ≡ wants_send reads_mode (some w)
+  reads_own : (mode : ControlMode) (w : Want) → Own mode w → mode_read motor (gives w) ≡ wants_send reads_mode (Some w)
   unfolding a_want send_to wants_send reads_mode any
   reads_own mode Clock o = refl
   reads_own mode (Send (ReadRegister rid)) (inl e) =
-      subst (λ (r : ℕ). mode_read motor (gives (Send (ReadRegister r))) ≡ wants_send reads_mode (some (Send (ReadRegister r)))) (sym e)
+      subst (λ (r : ℕ). mode_read motor (gives (Send (ReadRegister r))) ≡ wants_send reads_mode (Some (Send (ReadRegister r)))) (sym e)
       (λ i. eq-eqb (register_read_data motor 10) (register_read_data motor 10) refl i && or_true (not (shared motor)) i)
   reads_own mode (Send (ReadRegister rid)) (inr e) =
-      subst (λ (r : ℕ). mode_read motor (gives (Send (ReadRegister r))) ≡ wants_send reads_mode (some (Send (ReadRegister r)))) (sym e)
+      subst (λ (r : ℕ). mode_read motor (gives (Send (ReadRegister r))) ≡ wants_send reads_mode (Some (Send (ReadRegister r)))) (sym e)
       (left_false (eqb (register_read_data motor 80) (register_read_data motor 10)) _ (read_80 motor))
   reads_own mode (Send (WriteRegister rid bits)) o =
       left_false (eqb (register_write_data motor rid bits) (register_read_data motor 10)) _
@@ -205,7 +205,7 @@ module _ (h : Head) where
   reads_own mode (Send (Setpoint m position)) o = hold_neither motor (read_frame motor) m (hold_data h.limits m position.0)
   reads_own mode (Sleep length) o = refl
 
-  writes_own : (mode : ControlMode) (w : Want) → Own mode w → mode_write motor (gives w) ≡ wants_send writes_mode (some w)
+  writes_own : (mode : ControlMode) (w : Want) → Own mode w → mode_write motor (gives w) ≡ wants_send writes_mode (Some w)
   unfolding a_want send_to wants_send writes_mode
   writes_own mode Clock o = refl
   writes_own mode (Send (ReadRegister rid)) o = left_false (write_frame motor (register_read_data motor rid)) _ (read_no_write motor rid)
@@ -219,13 +219,13 @@ module _ (h : Head) where
   writes_own mode (Send (Setpoint m position)) o = hold_neither motor (write_frame motor) m (hold_data h.limits m position.0)
   writes_own mode (Sleep length) o = refl
 
-  pub reads_alike : (mode : ControlMode) (p : Switch) → mode_read motor (gives (switch_want mode p)) ≡ wants_send reads_mode (some (switch_want mode p))
+  pub reads_alike : (mode : ControlMode) (p : Switch) → mode_read motor (gives (switch_want mode p)) ≡ wants_send reads_mode (Some (switch_want mode p))
   reads_alike mode p = reads_own mode (switch_want mode p) (own mode p)
 
-  pub writes_alike : (mode : ControlMode) (p : Switch) → mode_write motor (gives (switch_want mode p)) ≡ wants_send writes_mode (some (switch_want mode p))
+  pub writes_alike : (mode : ControlMode) (p : Switch) → mode_write motor (gives (switch_want mode p)) ≡ wants_send writes_mode (Some (switch_want mode p))
   writes_alike mode p = writes_own mode (switch_want mode p) (own mode p)
 
-  pub reads_weight : (w : Want) → once (wants_send reads_mode (some w)) ≡ counted 0 mode_reads 0 w
+  pub reads_weight : (w : Want) → once (wants_send reads_mode (Some w)) ≡ counted 0 mode_reads 0 w
   unfolding reads_mode
   reads_weight = weight reads_mode mode_reads weighs
     where
@@ -237,7 +237,7 @@ module _ (h : Head) where
       weighs StoreParams = refl
       weighs (Setpoint m position) = refl
 
-  pub writes_weight : (w : Want) → once (wants_send writes_mode (some w)) ≡ counted 0 mode_writes 0 w
+  pub writes_weight : (w : Want) → once (wants_send writes_mode (Some w)) ≡ counted 0 mode_writes 0 w
   unfolding writes_mode
   writes_weight = weight writes_mode mode_writes weighs
     where

@@ -1,9 +1,9 @@
 -- A switch's turns as a list of answers to its definition: what they gave is what that wants, in the same order. Assumes nothing.
+use Rattle.std.specs.Prelude.{None, Option, Some}
 use Prim.Native.Nat.{ℕ, suc, ◌+◌}
 use mathlib.Core.Path.{◌≡◌, refl, sym, ap, ◌∙◌, subst}
 use mathlib.Core.Bool.{Bool, false}
 use mathlib.Core.List.{List, [], ◌∷◌}
-use mathlib.Core.Option.{Option, none, some}
 use lib.ListN.{length}
 use Rattle.time.specs.declared.Instant.{Instant}
 use Rattle.time.specs.declared.Duration.{Duration}
@@ -30,12 +30,12 @@ use Rattle.law_switch.proofs.Moving.{Behind, Pending, Goes_on, goes_on}
 use Rattle.law_switch.proofs.Ran.{machine, gave_want, gave_result, Took, onward_cases, Ran}
 use Rattle.session_step.specs.declared.Told.TheVariants as Told
 
-pub none≢some : {A : Type 0} {x : A} → none ≡ some x → ⊥
-none≢some {A} e = subst IsNone e tt
+pub None≢Some : {A : Type 0} {x : A} → None ≡ Some x → ⊥
+None≢Some {A} e = subst IsNone e tt
   where
     IsNone : Option A → Type 0
-    IsNone none = Unit {0}
-    IsNone (some x) = ⊥
+    IsNone None = Unit {0}
+    IsNone (Some x) = ⊥
 
 -- a want is no result
 no_result : (h : Head) (w : Want) (later : Option RunResult) → result_in (Told.Want (caller_want h w)) later ≡ later
@@ -44,7 +44,7 @@ no_result h w later = refl
 
 module _ (h : Head) (mode : ControlMode) (timeout : Duration) where
   abbrev at : Switch → Option Machine
-  at p = some (machine h mode timeout p)
+  at p = Some (machine h mode timeout p)
 
   abbrev want_of : Switch → Gave
   want_of p = gave_want h mode timeout p
@@ -54,7 +54,7 @@ module _ (h : Head) (mode : ControlMode) (timeout : Duration) where
   unfolding result_of
   want_on t ts q gave = ap (λ (g : Gave). result_in g.told (result_of ts)) gave ∙ no_result h (switch_want mode q) (result_of ts)
 
-  pub end_of : (t : Turn) (ts : List Turn) (r : RunResult) → t.gave ≡ gave_result h mode timeout r → result_of (t ∷ ts) ≡ some r
+  pub end_of : (t : Turn) (ts : List Turn) (r : RunResult) → t.gave ≡ gave_result h mode timeout r → result_of (t ∷ ts) ≡ Some r
   unfolding result_of result_in
   end_of t ts r gave = ap (λ (g : Gave). result_in g.told (result_of ts)) gave
 
@@ -63,7 +63,7 @@ module _ (h : Head) (mode : ControlMode) (timeout : Duration) where
     pub as_many : length gs ≡ length ts
     pub counts : (f : Gave → Bool) (w : Want → ℕ) → ((q : Switch) → once (f (want_of q)) ≡ w (switch_want mode q)) → ((r : RunResult) → f (gave_result h mode timeout r) ≡ false)
         → count f (want_of p ∷ gaves ts) ≡ Trace.total w (wants_from running gs (at p))
-    pub ended : after running gs (at p) ≡ none → (r : RunResult) × (result_of ts ≡ some r)
+    pub ended : after running gs (at p) ≡ None → (r : RunResult) × (result_of ts ≡ Some r)
     pub moves : (k : Known) → Behind k.last l → Pending k (next_reading ts) → AllMove k.last (want_of p).told ts → Moving running gs k (at p)
 
   module _ (p : Switch) (l : Instant) where
@@ -73,7 +73,7 @@ module _ (h : Head) (mode : ControlMode) (timeout : Duration) where
       gs = [];
       as_many = refl;
       counts = λ f w same never. ap (λ (n : ℕ). n + 0) (same p);
-      ended = λ e. absurd (none≢some (sym e));
+      ended = λ e. absurd (None≢Some (sym e));
       moves = λ k b pending m. tt;
     }
 
@@ -112,7 +112,7 @@ module _ (h : Head) (mode : ControlMode) (timeout : Duration) where
             );
       }
 
-      ends : (r : RunResult) → stepped next ≡ none → t.gave ≡ gave_result h mode timeout r → ts ≡ [] → Traced p l (t ∷ ts)
+      ends : (r : RunResult) → stepped next ≡ None → t.gave ≡ gave_result h mode timeout r → ts ≡ [] → Traced p l (t ∷ ts)
       unfolding gaves count Trace.total wants_from after AllFine result_of result_in length
       ends r e gave stop = record {
         gs = given ∷ [];

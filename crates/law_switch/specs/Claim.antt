@@ -1,6 +1,5 @@
 -- Demand 3: what holds of every mode switch in every list of calls on one session. It goes along the last paragraph of document 01's 'The runs', from the calls to the claim, and speaks of the calls and of what they returned; the run's definition is asked only for what it wants. Definitions only.
-use Rattle.std.specs.Prelude.{ℕ, ◌+◌, ◌/◌, ◌^◌, ◌≤◌, ◌≡◌, Bool, true, false, not, ◌&&◌, ◌||◌, cond, ◌↔◌, List, [], ◌∷◌, ◌++◌, eqb, length}
-use Rattle.std.proofs.Math.Option.{Option, none, some}
+use Rattle.std.specs.Prelude.{ℕ, ◌+◌, ◌/◌, ◌^◌, ◌≤◌, ◌≡◌, Bool, true, false, not, ◌&&◌, ◌||◌, cond, ◌↔◌, List, [], ◌∷◌, ◌++◌, eqb, length, None, Option, Some}
 use Rattle.float.specs.declared.F32Bits.{F32Bits}
 use Rattle.motor_core.specs.declared.bus.CanFrame.{CanFrame}
 use Rattle.time.specs.declared.Instant.{Instant}
@@ -110,8 +109,8 @@ step s (patch status mos rotor) = of_patch (patch_latest s status mos rotor)
 
 -- what the run's definition wants
 abbrev pub open_want : Phase → Option Want
-open_want Closed = none
-open_want (Open machine) = some (machine_want machine)
+open_want Closed = None
+open_want (Open machine) = Some (machine_want machine)
 
 -- a call, what it returned, and what the run's definition, stepped over the same list, wants then
 pub record Event : Type 0 where
@@ -135,16 +134,16 @@ session_after s (c ∷ cs) = session_after (step s c).session cs
 
 -- what a frame says of register 10, if it is a reply
 abbrev pub mode_reply_by : FrameClass → List ℕ → Option RegisterValue
-mode_reply_by Class.Reply bytes = cond (eqb 10 (d bytes 3)) (some (register_value bytes)) none
-mode_reply_by Class.Ack bytes = none
-mode_reply_by Class.Feedback bytes = none
+mode_reply_by Class.Reply bytes = cond (eqb 10 (d bytes 3)) (Some (register_value bytes)) None
+mode_reply_by Class.Ack bytes = None
+mode_reply_by Class.Feedback bytes = None
 
 abbrev pub mode_reply : CanFrame → Option RegisterValue
 mode_reply f = mode_reply_by (class_of f.«data») f.«data»
 
 abbrev pub replied : Entry → Instant → Option RegisterValue → Entry
-replied e reading none = e
-replied e reading (some value) = Held value reading
+replied e reading None = e
+replied e reading (Some value) = Held value reading
 
 -- a frame that was refused brings nothing
 unfoldable pub taken_in : Entry → CanFrame → Instant → Returned → Entry
@@ -212,11 +211,11 @@ turns_after (Told.Refused number) e vs = turns e vs
 
 unfoldable pub result_in : Told → Option RunResult → Option RunResult
 result_in (Told.Want want) later = later
-result_in (Told.Result r) later = some r
+result_in (Told.Result r) later = Some r
 result_in (Told.Refused number) later = later
 
 unfoldable pub result_of : List Turn → Option RunResult
-result_of [] = none
+result_of [] = None
 result_of (t ∷ ts) = result_in t.gave.told (result_of ts)
 
 -- its result, of the start or of a turn
@@ -275,16 +274,16 @@ shared motor = eqb motor 0x7ff || (eqb motor 0x6ff || (eqb motor 0x5ff || eqb mo
 
 -- by what the definition wants: a send of such a message; a sleep
 unfoldable pub wants_send : (Message → Bool) → Option Want → Bool
-wants_send of none = false
-wants_send of (some Clock) = false
-wants_send of (some (Send message)) = of message
-wants_send of (some (Sleep length)) = false
+wants_send of None = false
+wants_send of (Some Clock) = false
+wants_send of (Some (Send message)) = of message
+wants_send of (Some (Sleep length)) = false
 
 unfoldable pub wants_sleep : Option Want → Bool
-wants_sleep none = false
-wants_sleep (some Clock) = false
-wants_sleep (some (Send message)) = false
-wants_sleep (some (Sleep length)) = true
+wants_sleep None = false
+wants_sleep (Some Clock) = false
+wants_sleep (Some (Send message)) = false
+wants_sleep (Some (Sleep length)) = true
 
 unfoldable pub any : Message → Bool
 any message = true
@@ -316,21 +315,21 @@ mode_write motor g = on_7ff (write_frame motor) g.told && (not (shared motor) ||
 
 -- an answer's reading if it is one, else `other`
 unfoldable pub reading_or : Answer → Option Instant → Option Instant
-reading_or (Answer.Reading t) other = some t
+reading_or (Answer.Reading t) other = Some t
 reading_or (Answer.Send result) other = other
 reading_or Answer.Slept other = other
 
 unfoldable pub next_reading : List Turn → Option Instant
-next_reading [] = none
+next_reading [] = None
 next_reading (t ∷ ts) = reading_or t.answer (next_reading ts)
 
 -- a sleep does, unless the next reading is less than its length above the last one before it
 abbrev pub Moves : Option Instant → Told → Option Instant → Type 0
-Moves last w next = (r t : Instant) (d : Duration) → last ≡ some r → w ≡ Told.Want (Wanted.Sleep d) → next ≡ some t → r.0 + d.0 ≤ t.0
+Moves last w next = (r t : Instant) (d : Duration) → last ≡ Some r → w ≡ Told.Want (Wanted.Sleep d) → next ≡ Some t → r.0 + d.0 ≤ t.0
 
 -- all do, from the want `w` on; `last` is the last reading so far
 unfoldable pub AllMove : Option Instant → Told → List Turn → Type 0
-AllMove last w [] = Moves last w none
+AllMove last w [] = Moves last w None
 AllMove last w (t ∷ ts) = Moves last w (next_reading (t ∷ ts)) × AllMove (reading_or t.answer last) t.gave.told ts
 
 -- ---- success: what the last read of register 10 found
@@ -360,7 +359,7 @@ pub record Found (motor mode : ℕ) (so_far : Option Instant) (first : Gave) (ts
   pub whole : ts ≡ before ++ (waited ++ (look ∷ later))
   pub read : mode_read motor (gave_after first before) ≡ true
   pub is_last : count (mode_read motor) (gaves (waited ++ (look ∷ later))) ≡ 0
-  pub opens : reading_after so_far before ≡ some opening
+  pub opens : reading_after so_far before ≡ Some opening
   pub looks : Looks waited look.answer
   pub finds : look.sees ≡ Held (UInt32 mode) stamp
   pub fresh : opening.0 ≤ stamp.0
@@ -392,13 +391,13 @@ pub record Bounded (motor mode : ℕ) (first : Gave) (ts : List Turn) (end : Ses
   pub sends_wanted : count (λ g. a_send g.told) (first ∷ gaves ts) ≡ count (λ g. wants_send any g.wants) (first ∷ gaves ts)
   pub sleeps_wanted : count (λ g. a_sleep g.told) (first ∷ gaves ts) ≡ count (λ g. wants_sleep g.wants) (first ∷ gaves ts)
   -- if its sleeps move the clock on, at most 449 of them, and a result after at most 947 accepted answers
-  pub sleeps : AllMove none first.told ts → count (λ g. a_sleep g.told) (first ∷ gaves ts) ≤ 449
-  pub ends : AllMove none first.told ts → 947 ≤ length ts → (r : RunResult) × (result first ts ≡ some r)
+  pub sleeps : AllMove None first.told ts → count (λ g. a_sleep g.told) (first ∷ gaves ts) ≤ 449
+  pub ends : AllMove None first.told ts → 947 ≤ length ts → (r : RunResult) × (result first ts ≡ Some r)
   -- while it has none, some answer is accepted; with it the run is closed
-  pub answerable : result first ts ≡ none → (a : Answer) × (w : Told) × ((step end (answer a)).returned ≡ told w) × Accepted w
-  pub closes : (r : RunResult) → result first ts ≡ some r → (gave_after first ts).wants ≡ none
+  pub answerable : result first ts ≡ None → (a : Answer) × (w : Told) × ((step end (answer a)).returned ≡ told w) × Accepted w
+  pub closes : (r : RunResult) → result first ts ≡ Some r → (gave_after first ts).wants ≡ None
   -- done exactly if the last read of register 10 found the mode
-  pub success : (r : RunResult) → result first ts ≡ some r → (r ≡ Done) ↔ Found motor mode none first ts
+  pub success : (r : RunResult) → result first ts ≡ Some r → (r ≡ Done) ↔ Found motor mode None first ts
 
 pub record Claim : Type 0 where
   -- a refused call leaves the session that it got

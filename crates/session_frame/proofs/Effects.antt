@@ -4,12 +4,11 @@ use Prim.Native.Nat.{ℕ, ◌≤◌, ◌<◌, ◌^◌}
 use mathlib.Core.Path.{◌≡◌, refl, sym, ap, ◌∙◌, subst}
 use mathlib.Core.Bool.{Bool, true, false, cond, true≢false}
 use mathlib.Core.List.{List}
-use mathlib.Core.Option.{Option, none, some}
 use native.Mathlib.Nat.{le_refl}
 use lib.Dec.{T, eqb, eqb→eq, eqb_refl}
 use lib.ListN.{length, length-set}
 use lib.Seq.{get_or-set_same, get_or-set_other}
-use Rattle.std.specs.Prelude.{Ok, Err}
+use Rattle.std.specs.Prelude.{Ok, Err, None, Option, Some}
 use Rattle.motor_core.specs.declared.error.Refusal.{Refusal}
 use Rattle.motor_core.specs.declared.bus.CanFrame.{CanFrame}
 use Rattle.motor_core.specs.declared.model.PvTLimits.{PvTLimits}
@@ -36,31 +35,31 @@ use Rattle.session_frame.proofs.Outcomes.{taken_reading}
 
 -- a register that is known, where one is named
 abbrev Known : Option (ℕ × RegisterValue) → Type 0
-Known none = Unit {0}
-Known (some x) = known x.0 ≡ true
+Known None = Unit {0}
+Known (Some x) = known x.0 ≡ true
 
 -- one register's slot, once a value is stored
 slot_stored : (slots : List Entry) (rid : ℕ) (x : Option (ℕ × RegisterValue)) (t : Instant) → length slots ≡ 82 → Known x → slot_of (stored x t slots) rid ≡ slot_with (of_register rid x) t (slot_of slots rid)
-slot_stored slots rid none t size k = refl
-slot_stored slots rid (some x) t size k = go (eqb rid x.0) (eqb→eq rid x.0) (λ same. subst (λ (i : ℕ). T (eqb rid i)) same (eqb_refl rid))
+slot_stored slots rid None t size k = refl
+slot_stored slots rid (Some x) t size k = go (eqb rid x.0) (eqb→eq rid x.0) (λ same. subst (λ (i : ℕ). T (eqb rid i)) same (eqb_refl rid))
   where
     here : x.0 < length slots
     here = subst (λ (m : ℕ). x.0 < m) (sym size) (known_below x.0 k)
 
-    go : (b : Bool) → (T b → rid ≡ x.0) → (rid ≡ x.0 → T b) → slot_of (stored (some x) t slots) rid ≡ slot_with (cond b (some x.1) none) t (slot_of slots rid)
-    go true same of = ap (slot_of (stored (some x) t slots)) (same tt) ∙ get_or-set_same slots x.0 (Held x.1 t) Empty here
+    go : (b : Bool) → (T b → rid ≡ x.0) → (rid ≡ x.0 → T b) → slot_of (stored (Some x) t slots) rid ≡ slot_with (cond b (Some x.1) None) t (slot_of slots rid)
+    go true same of = ap (slot_of (stored (Some x) t slots)) (same tt) ∙ get_or-set_same slots x.0 (Held x.1 t) Empty here
     go false same of = get_or-set_other slots x.0 rid (Held x.1 t) Empty (λ e. of e)
 
 length_stored : (x : Option (ℕ × RegisterValue)) (t : Instant) (slots : List Entry) → length (stored x t slots) ≡ length slots
-length_stored none t slots = refl
-length_stored (some x) t slots = length-set slots x.0 (Held x.1 t)
+length_stored None t slots = refl
+length_stored (Some x) t slots = length-set slots x.0 (Held x.1 t)
 
 -- nothing is brought of a register that is not known
-unknown_none : (rid : ℕ) (x : Option (ℕ × RegisterValue)) → known rid ≡ false → Known x → of_register rid x ≡ none
-unknown_none rid none u k = refl
-unknown_none rid (some x) u k = go (eqb rid x.0) (eqb→eq rid x.0)
+unknown_none : (rid : ℕ) (x : Option (ℕ × RegisterValue)) → known rid ≡ false → Known x → of_register rid x ≡ None
+unknown_none rid None u k = refl
+unknown_none rid (Some x) u k = go (eqb rid x.0) (eqb→eq rid x.0)
   where
-    go : (b : Bool) → (T b → rid ≡ x.0) → ◌≡◌ {A = Option RegisterValue} (cond b (some x.1) none) none
+    go : (b : Bool) → (T b → rid ≡ x.0) → ◌≡◌ {A = Option RegisterValue} (cond b (Some x.1) None) None
     go true same = absurd (true≢false (sym k ∙ ap known (sym (same tt)) ∙ u))
     go false same = refl
 

@@ -1,6 +1,5 @@
 -- Taking a frame: what it does to each part of a session. Definitions only.
-use Rattle.std.specs.Prelude.{ℕ, cond, List, set, Result, Ok, Err}
-use Rattle.std.proofs.Math.Option.{Option, none, some}
+use Rattle.std.specs.Prelude.{ℕ, cond, List, set, Result, Ok, Err, None, Option, Some}
 use Rattle.motor_core.specs.Outcome.{and_then}
 use Rattle.motor_core.specs.declared.error.Refusal.{Refusal}
 use Rattle.motor_core.specs.declared.error.Refusal.TheVariants as Refusal
@@ -45,19 +44,19 @@ head_after h id received reading = head_at h (feedback_after h.feedback id recei
 
 -- the register and value that a reply says, and an ack
 abbrev pub reply_of : Received → Option (ℕ × RegisterValue)
-reply_of (Reply rid value) = some (rid, value)
-reply_of (Ack rid value) = none
-reply_of (Feedback f) = none
+reply_of (Reply rid value) = Some (rid, value)
+reply_of (Ack rid value) = None
+reply_of (Feedback f) = None
 
 abbrev pub ack_of : Received → Option (ℕ × RegisterValue)
-ack_of (Reply rid value) = none
-ack_of (Ack rid value) = some (rid, value)
-ack_of (Feedback f) = none
+ack_of (Reply rid value) = None
+ack_of (Ack rid value) = Some (rid, value)
+ack_of (Feedback f) = None
 
 -- a value goes into its register's slot, stamped with the frame's reading
 abbrev pub stored : Option (ℕ × RegisterValue) → Instant → List Entry → List Entry
-stored none reading slots = slots
-stored (some x) reading slots = set slots x.0 (Held x.1 reading)
+stored None reading slots = slots
+stored (Some x) reading slots = set slots x.0 (Held x.1 reading)
 
 -- a session after a frame, by what the frame says: replies and acks have a cache each, and the run is left alone
 abbrev pub with_received : Session → ℕ → Received → Instant → Session
