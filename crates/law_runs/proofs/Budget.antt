@@ -71,7 +71,7 @@ use Rattle.run_machine.specs.declared.Machine.{Machine}
 use Rattle.run_machine.specs.declared.Machine.TheVariants.{GetRegister, WriteRegister, RequestFreshState, StoreParameters, EnsureControlMode}
 use Rattle.law_runs.specs.Budget.{Budget, clearing, stepped_left, weigh, ask_left, asked_left, read_left, state_left, disabling, store_left, stored_left, ack_left, acked_left, more_tries, write_left, written_left, mode_reading, holding, finishing, more_rounds, rounds, preparing, unfound, switch_left, switched_left, machine_left, left}
 use Rattle.law_runs.specs.Clock.{Clocked, known_after, fine, AllFine}
-use Rattle.law_runs.specs.Systems.{still, waiting, goes_on, acking, running}
+use Rattle.law_runs.specs.Systems.{still, waiting, phase_of, acking, running}
 use Rattle.law_runs.specs.Trace.{Given, System, label, wants_from, total}
 
 module _ {κ : Clocked} (β : Budget κ) where
@@ -418,7 +418,7 @@ module _ {κ : Clocked} (β : Budget κ) where
       k
       (Some w)
 
-  on_option : {S T : Type 0} (left_at : κ.Known → S → ℕ) (k : κ.Known) (x : Stepped S T) → option_left left_at k (goes_on x) ≡ stepped_left (left_at k) x
+  on_option : {S T : Type 0} (left_at : κ.Known → S → ℕ) (k : κ.Known) (x : Stepped S T) → option_left left_at k (phase_of x) ≡ stepped_left (left_at k) x
   on_option left_at k (Ok (Goes s)) = refl
   on_option left_at k (Ok (Ends t)) = refl
   on_option left_at k (Err failure) = refl

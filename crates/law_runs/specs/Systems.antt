@@ -26,16 +26,16 @@ still find Waited.Late = None
 abbrev pub waiting : Duration → (Given → Instant → Bool) → System
 waiting length finds = record { At = Wait; want = wait_want; next = λ g w. still (finds g) (wait_step length w g.answer) }
 
--- a run goes on to a phase, or has ended or failed
-abbrev pub goes_on : {S T : Type 0} → Stepped S T → Option S
-goes_on (Ok (Goes s)) = Some s
-goes_on (Ok (Ends t)) = None
-goes_on (Err failure) = None
+-- the phase that a step goes on to, unless it ends or fails
+abbrev pub phase_of : {S T : Type 0} → Stepped S T → Option S
+phase_of (Ok (Goes s)) = Some s
+phase_of (Ok (Ends t)) = None
+phase_of (Err failure) = None
 
 -- an ack wait
 abbrev pub acking : RegisterValue → System
-acking value = record { At = AckWait; want = ack_want; next = λ g q. goes_on (ack_step value g.entry q g.answer) }
+acking value = record { At = AckWait; want = ack_want; next = λ g q. phase_of (ack_step value g.entry q g.answer) }
 
 -- a run
 abbrev pub running : System
-running = record { At = Machine; want = machine_want; next = λ g m. goes_on (machine_step g.latest g.entry m g.answer) }
+running = record { At = Machine; want = machine_want; next = λ g m. phase_of (machine_step g.latest g.entry m g.answer) }

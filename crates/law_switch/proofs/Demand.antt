@@ -1,5 +1,5 @@
--- Demand 3. Assumes nothing.
-use Rattle.std.specs.Prelude.{None, Option, Some}
+-- The claim holds. Assumes nothing.
+use Rattle.std.specs.Prelude.{None, Option, Some, Ok, Err}
 use Prim.Native.Nat.{ℕ, ◌≤◌}
 use mathlib.Core.Path.{◌≡◌, refl, sym, ap, ◌∙◌, subst}
 use mathlib.Core.Bool.{Bool}
@@ -16,24 +16,23 @@ use Rattle.run_want.specs.declared.Want.TheVariants.{Clock}
 use Rattle.switch_stage.specs.Stage.{switch_want}
 use Rattle.switch_stage.specs.declared.Switch.TheVariants.{Starting}
 use Rattle.run_machine.specs.declared.Machine.{Machine}
-use Rattle.run_machine.specs.declared.RunResult.{RunResult}
+use Rattle.run_machine.specs.Machine.{RunResult}
 use Rattle.session.specs.declared.Head.{Head}
-use Rattle.session.specs.declared.Phase.TheVariants.{Open}
 use Rattle.session.specs.declared.Session.{Session}
-use Rattle.session_step.specs.declared.Told.{Told}
 use Rattle.session_step.specs.declared.Told.TheVariants as Told
 use Rattle.session_answer.specs.declared.AfterCall.{AfterCall}
 use Rattle.run_machine.specs.Machine.{machine_want}
 use Rattle.session_step.specs.Parts.{caller_want}
 use Rattle.run_arguments.specs.Arguments.{mode_start}
-use Rattle.session_begin.specs.Begin.{opened, with_opened, begin, ensure_control_mode}
+use Rattle.session_begin.specs.Begin.{with_opened, begin, ensure_control_mode}
 use Rattle.session_begin.proofs.Effects.{start_cases}
 use Rattle.law_runs.specs.Clock.{unheard, Moved, Moving}
 use Rattle.law_runs.specs.Trace.{counted}
 use Rattle.law_runs.specs.Trace as Trace
 use Rattle.law_runs.specs.Systems.{running}
 use Rattle.law_runs.proofs.Runs.{bounds}
-use Rattle.law_switch.specs.Claim.{switch, Call, Returned, told, start_run, step, open_want, patched, events, session_after, last_reply, Gave, Turn, turns, turns_after, result_in, result_of, gaves, count, a_send, a_sleep, on_7ff, wants_send, wants_sleep, any, reads_mode, writes_mode, mode_read, mode_write, AllMove, Accepted, Bounded, Claim, a_want, send_to, is_sleep}
+use Rattle.motor_core.specs.declared.error.Refusal.{Refusal}
+use Rattle.law_switch.specs.Claim.{Answered, switch, Call, Returned, told, start_run, step, open_want, patched, events, session_after, last_reply, Gave, Turn, turns, turns_after, result_in, result_of, gaves, count, a_send, a_sleep, on_7ff, wants_send, wants_sleep, any, reads_mode, writes_mode, mode_read, mode_write, AllMove, Accepted, Bounded, Claim, a_want, send_to, is_sleep}
 use Rattle.law_switch.proofs.Ended.{answered, closed_after}
 use Rattle.law_switch.proofs.Ran.{machine, gave_want, Ran, ran}
 use Rattle.law_switch.proofs.Sessions.{mode_entry, Sound, list_sound, list_entry, refused_leaves}
@@ -122,13 +121,13 @@ module _ (h : Head) (mode : ControlMode) (timeout : Duration) (ts : List Turn) (
         closes = λ r e. closed_after h mode timeout z ts Starting l first r how e;
         success = λ r e. (
           λ done. done_found h mode timeout z ts l how (subst (λ (x : RunResult). result_of ts ≡ Some x) done e),
-          λ f. ap (some_of r) (sym e ∙ found_done h mode timeout z ts Starting l None how (λ o is. absurd (None≢Some is)) f),
+          λ f. ap (some_of r) (sym e ∙ found_done h mode timeout z ts Starting l None how (λ o is. absurd (none≢some is)) f),
         );
       }
 
 -- ---- of each switch in each list
 
-told_in : Told → Returned → Told
+told_in : Answered → Returned → Answered
 told_in t (told x) = x
 told_in t (Returned.frame outcome) = t
 told_in t (patched done) = t
@@ -137,24 +136,24 @@ module _ (h : Head) (s : Session) (sound : Sound h s) (n : ℕ) (timeout : Durat
   -- of what a start came to
   abbrev Starts : AfterCall → Type 0
   Starts r =
-      (w : Told) → told r.told ≡ told w → Accepted w
-      → Bounded h.motor_id n (record { told = w; wants = open_want r.session.run.phase }) (turns_after w (mode_entry s) (events r.session after)) (session_after r.session after)
+      (w : Answered) → told r.told ≡ told w → Accepted w
+      → Bounded h.motor_id n (record { told = w; wants = open_want r.session.run }) (turns_after w (mode_entry s) (events r.session after)) (session_after r.session after)
 
-  refused_start : (k : ℕ) → Starts (record { session = s; told = Told.Refused k })
+  refused_start : (k : Refusal) → Starts (record { session = s; told = Err k })
   unfolding Accepted told_in
   refused_start k w e accepted = absurd (subst Accepted (sym (ap (told_in w) e)) accepted)
 
-  accepted_start : (m : Machine) → Switching n timeout m → Starts (with_opened s (opened (Told.Want (caller_want s.head (machine_want m))) (record { phase = Open m })))
+  accepted_start : (m : Machine) → Switching n timeout m → Starts (with_opened s (Ok m))
   unfolding told_in turns_after
   accepted_start m x =
-      subst (λ (m : Machine). Starts (with_opened s (opened (Told.Want (caller_want s.head (machine_want m))) (record { phase = Open m })))) x.opens
+      subst (λ (m : Machine). Starts (with_opened s (Ok m))) x.opens
       (λ w e accepted.
-      let s' : Session = with_run s (record { phase = Open (machine h x.mode timeout Starting) }) in
+      let s' : Session = with_run s (Some (machine h x.mode timeout Starting)) in
       let sound' : Sound h s' = record { motor_id = sound.motor_id; limits = sound.limits; replies = sound.replies; last = sound.last } in
       let ts = turns (mode_entry s) (events s' after) in
       let z = session_after s' after in
-      subst (λ (w : Told). Bounded h.motor_id n (record { told = w; wants = Some Clock }) (turns_after w (mode_entry s) (events s' after)) z) (ap (told_in (Told.Want Wanted.Clock)) e)
-      (subst (λ (n : ℕ). Bounded h.motor_id n (record { told = Told.Want Wanted.Clock; wants = Some Clock }) ts z) x.number
+      subst (λ (w : Answered). Bounded h.motor_id n (record { told = w; wants = Some Clock }) (turns_after w (mode_entry s) (events s' after)) z) (ap (told_in (Ok (Told.Want Wanted.Clock))) e)
+      (subst (λ (n : ℕ). Bounded h.motor_id n (record { told = Ok (Told.Want Wanted.Clock); wants = Some Clock }) ts z) x.number
       (bounded h x.mode timeout ts z s.head.last (ran h x.mode timeout after s' Starting refl sound'))))
 
   any_start : Starts (begin s (mode_start n timeout))
@@ -169,6 +168,6 @@ claim = record {
       let sound = list_sound s₀.head before s₀ (fresh_sound s₀ fresh) in
       let seen : mode_entry s ≡ last_reply Empty (events s₀ before) = list_entry s₀.head before s₀ (fresh_sound s₀ fresh) ∙ ap (λ (x : Entry). last_reply x (events s₀ before)) (fresh_entry s₀ fresh) in
       let r = begin s (mode_start n timeout) in
-      subst (λ (x : Entry). Bounded s₀.head.motor_id n (record { told = w; wants = open_want r.session.run.phase }) (turns_after w x (events r.session after)) (session_after r.session after)) seen
+      subst (λ (x : Entry). Bounded s₀.head.motor_id n (record { told = w; wants = open_want r.session.run }) (turns_after w x (events r.session after)) (session_after r.session after)) seen
       (any_start s₀.head s sound n timeout after w e accepted);
 }

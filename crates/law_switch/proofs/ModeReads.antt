@@ -1,5 +1,5 @@
 -- The reads of register 10 in a switch, by its definition: where they open, where they look, and what ends them. Assumes nothing.
-use Rattle.std.specs.Prelude.{None, Option, Some}
+use Rattle.std.specs.Prelude.{None, Option, Some, Result, Ok, Err}
 use Prim.Native.Nat.{ℕ, zero, suc, ◌≤◌}
 use mathlib.Core.Path.{◌≡◌, refl, sym, ap, ◌∙◌, subst}
 use mathlib.Core.Bool.{Bool, true, false, cond, true≢false}
@@ -21,41 +21,35 @@ use Rattle.run_want.specs.declared.Answer.{Answer}
 use Rattle.run_want.specs.declared.Answer.TheVariants.{Slept}
 use Rattle.run_want.specs.declared.Failure.{Failure}
 use Rattle.run_want.specs.declared.Failure.TheVariants as Failure
-use Rattle.run_want.specs.declared.SendOutcome.{SendOutcome}
-use Rattle.run_want.specs.declared.SendOutcome.TheVariants as SendOutcome
 use Rattle.run_want.specs.declared.Want.{Want}
 use Rattle.run_want.specs.declared.Want.TheVariants.{Clock, Send, Sleep}
-use Rattle.run_wait.specs.Ask.{ask_sent}
+use Rattle.motor_core.specs.Outcome.{and_then}
+use Rattle.run_want.specs.Step.{Stepped}
+use Rattle.run_want.specs.declared.step.Step.TheVariants.{Goes, Ends}
+use Rattle.run_wait.specs.declared.Waited.TheVariants as Waited
+use Rattle.run_write.specs.declared.Write.{Write}
 use Rattle.run_wait.specs.Look.{fresh_entry}
 use Rattle.run_wait.specs.declared.Wait.TheVariants.{Checking, Napping}
 use Rattle.run_wait.specs.declared.ask.Ask.{Ask}
 use Rattle.run_wait.specs.declared.ask.Ask.TheVariants.{Opening, Sending, Waiting}
 use Rattle.run_read.specs.Read.{read_want, reply_found, read_by, get_by, get_step}
-use Rattle.run_read.specs.declared.ReadNext.{ReadNext}
-use Rattle.run_read.specs.declared.ReadNext.TheVariants as Read
 use Rattle.run_write.specs.declared.ack.AckWait.TheVariants as Ack
 use Rattle.run_write.specs.declared.Write.TheVariants as Write
-use Rattle.run_write.specs.declared.WriteNext.{WriteNext}
-use Rattle.run_write.specs.declared.WriteNext.TheVariants as Written
 use Rattle.run_write.specs.Write.{write_step}
 use Rattle.switch_stage.specs.Stage.{mode_value, switch_want, switch_place}
 use Rattle.switch_prepare.specs.Prepare.{prepare, after_hold_read, cleared, hold_timed}
 use Rattle.switch_finish.specs.Finish.{finish, held}
-use Rattle.switch_finish.specs.declared.FinishNext.{FinishNext}
-use Rattle.switch_finish.specs.declared.FinishNext.TheVariants as Finish
+use Rattle.switch_finish.specs.declared.Finishing.{Finishing}
+use Rattle.switch_finish.specs.declared.Finishing.TheVariants as Finish
 use Rattle.switch_write.specs.WriteMode.{after_prepare, after_mode_write, after_finish, settled}
 use Rattle.switch_step.specs.Switch.{with_error, not_yet, after_mode_read, mode_timed, switch_step}
 use Rattle.switch_time.specs.TimeLeft.{mode_read_cap, hold_read_cap, capped_remaining, sleep_up_to_reserving}
-use Rattle.switch_time.specs.declared.TimeLeft.{TimeLeft}
-use Rattle.switch_time.specs.declared.TimeLeft.TheVariants as Left
 use Rattle.switch_stage.specs.declared.ModeRead.{ModeRead}
 use Rattle.switch_stage.specs.declared.ModeRead.TheVariants.{First, Verify}
 use Rattle.switch_stage.specs.declared.Progress.{Progress}
 use Rattle.switch_stage.specs.declared.Stage.TheVariants.{Remaining, Reading, HoldRemaining, HoldReading, Clearing, Writing, SettleRemaining, SettleSleep, Holding}
 use Rattle.switch_stage.specs.declared.Switch.{Switch}
 use Rattle.switch_stage.specs.declared.Switch.TheVariants.{Starting, Begun}
-use Rattle.switch_stage.specs.declared.SwitchNext.{SwitchNext}
-use Rattle.switch_stage.specs.declared.SwitchNext.TheVariants.{Goes, Done, Failed}
 use Rattle.law_runs.specs.Ends.{wait_opening, HoldsFresh, Look, Since, GetSaw}
 use Rattle.law_runs.proofs.Ends.{get_saw}
 use Rattle.law_switch.specs.Claim.{wants_send, reads_mode}
@@ -143,10 +137,10 @@ module _ (mode : ControlMode) (timeout : Duration) (e : Entry) (a : Answer) wher
     pub look : Look read a opening
     pub found : HoldsFresh opening e (mode_value mode)
 
-  abbrev pub Law : Option Ask → SwitchNext → Type 0
-  Law ask (Goes q) = Entered ask (mode_ask q)
-  Law ask Done = Saw ask
-  Law ask (Failed failure) = Unit {0}
+  abbrev pub Law : Option Ask → Stepped Switch (Unit {0}) → Type 0
+  Law ask (Ok (Goes q)) = Entered ask (mode_ask q)
+  Law ask (Ok (Ends done)) = Saw ask
+  Law ask (Err failure) = Unit {0}
 
   not_yet_law : (ask : Option Ask) (which : ModeRead) (p : Progress) → Law ask (not_yet mode which p)
   not_yet_law ask First p = go mode
@@ -159,29 +153,32 @@ module _ (mode : ControlMode) (timeout : Duration) (e : Entry) (a : Answer) wher
   not_yet_law ask (Verify zero) p = tt
   not_yet_law ask (Verify (suc n)) p = tt
 
-  finish_law : (n : ℕ) (p : Progress) (x : FinishNext) → Law None (after_finish n p x)
+  finish_law : (n : ℕ) (p : Progress) (x : Finishing) → Law None (after_finish n p x)
   finish_law n p Finish.Holds = tt
   finish_law n p Finish.Done = tt
-  finish_law n p (Finish.Failed failure) = tt
 
-  mode_read_law : (which : ModeRead) (p : Progress) (l : Duration) (ask : Ask) (x : ReadNext) → GetSaw Typed.UInt32 l e ask a x → Law (Some ask) (after_mode_read mode which p l x)
-  mode_read_law which p l ask (Read.Goes Opening) saw = tt
-  mode_read_law which p l ask (Read.Goes (Sending o)) law = (ap Some law.0, law.1)
-  mode_read_law which p l ask (Read.Goes (Waiting w)) law = (ask, refl, law)
-  mode_read_law which p l ask (Read.Got v) ((o, look, seen), typed) = go (same_value v (mode_value mode)) refl
+  held_law : (n : ℕ) (p : Progress) (x : Result (Unit {0}) Failure) → Law None (and_then (held x) (after_finish n p))
+  held_law n p (Ok sent) = tt
+  held_law n p (Err failure) = tt
+
+  mode_read_law : (which : ModeRead) (p : Progress) (l : Duration) (ask : Ask) (x : Stepped Ask RegisterValue) → GetSaw Typed.UInt32 l e ask a x → Law (Some ask) (after_mode_read mode which p l x)
+  mode_read_law which p l ask (Ok (Goes Opening)) saw = tt
+  mode_read_law which p l ask (Ok (Goes (Sending o))) law = (ap Some law.0, law.1)
+  mode_read_law which p l ask (Ok (Goes (Waiting w))) law = (ask, refl, law)
+  mode_read_law which p l ask (Ok (Ends v)) ((o, look, seen), typed) = go (same_value v (mode_value mode)) refl
     where
-      go : (b : Bool) → same_value v (mode_value mode) ≡ b → Law (Some ask) (cond b Done (not_yet mode which (with_error p (Failure.Mismatch v))))
+      go : (b : Bool) → same_value v (mode_value mode) ≡ b → Law (Some ask) (cond b (Ok (Ends tt)) (not_yet mode which (with_error p (Failure.Mismatch v))))
       go true same = record { read = ask; is = refl; opening = o; look = look; found = subst (HoldsFresh o e) (same_mode v (mode_number mode) same) seen }
       go false same = not_yet_law (Some ask) which (with_error p (Failure.Mismatch v))
-  mode_read_law which p l ask (Read.Failed Failure.Timeout) law = not_yet_law (Some ask) which (with_error p Failure.Timeout)
-  mode_read_law which p l ask (Read.Failed (Failure.Mismatch v)) law = tt
-  mode_read_law which p l ask (Read.Failed Failure.WrongType) law = tt
-  mode_read_law which p l ask (Read.Failed Failure.SendFailed) law = tt
+  mode_read_law which p l ask (Err Failure.Timeout) law = not_yet_law (Some ask) which (with_error p Failure.Timeout)
+  mode_read_law which p l ask (Err (Failure.Mismatch v)) law = tt
+  mode_read_law which p l ask (Err Failure.WrongType) law = tt
+  mode_read_law which p l ask (Err Failure.SendFailed) law = tt
 
-  hold_read_law : (p : Progress) (l : Duration) (x : ReadNext) → Law None (after_prepare (after_hold_read p l x))
-  hold_read_law p l (Read.Goes q) = tt
-  hold_read_law p l (Read.Got v) = tt
-  hold_read_law p l (Read.Failed failure) = tt
+  hold_read_law : (p : Progress) (l : Duration) (x : Stepped Ask RegisterValue) → Law None (after_prepare (after_hold_read p l x))
+  hold_read_law p l (Ok (Goes q)) = tt
+  hold_read_law p l (Ok (Ends v)) = tt
+  hold_read_law p l (Err failure) = tt
 
   cleared_law : (c : ControlMode) (p : Progress) → Law None (after_prepare (cleared c p))
   cleared_law Mit p = tt
@@ -189,22 +186,22 @@ module _ (mode : ControlMode) (timeout : Duration) (e : Entry) (a : Answer) wher
   cleared_law Vel p = tt
   cleared_law ForcePos p = tt
 
-  written_law : (n : ℕ) (p : Progress) (x : WriteNext) → Law None (after_mode_write n p x)
-  written_law n p (Written.Goes w) = tt
-  written_law n p Written.Written = tt
-  written_law n p (Written.Failed failure) = tt
+  written_law : (n : ℕ) (p : Progress) (x : Stepped Write (Unit {0})) → Law None (after_mode_write n p x)
+  written_law n p (Ok (Goes w)) = tt
+  written_law n p (Ok (Ends written)) = tt
+  written_law n p (Err failure) = tt
 
-  mode_timed_law : (which : ModeRead) (p : Progress) (x : TimeLeft) → Law None (mode_timed which p x)
-  mode_timed_law which p Left.None = tt
-  mode_timed_law which p (Left.Some l) = tt
+  mode_timed_law : (which : ModeRead) (p : Progress) (x : Option Duration) → Law None (mode_timed which p x)
+  mode_timed_law which p None = tt
+  mode_timed_law which p (Some l) = tt
 
-  hold_timed_law : (p : Progress) (x : TimeLeft) → Law None (after_prepare (hold_timed p x))
-  hold_timed_law p Left.None = tt
-  hold_timed_law p (Left.Some l) = tt
+  hold_timed_law : (p : Progress) (x : Option Duration) → Law None (after_prepare (hold_timed p x))
+  hold_timed_law p None = tt
+  hold_timed_law p (Some l) = tt
 
-  settled_law : (n : ℕ) (p : Progress) (x : TimeLeft) → Law None (settled mode n p x)
-  settled_law n p Left.None = finish_law n p (finish mode p.hold_position)
-  settled_law n p (Left.Some l) = tt
+  settled_law : (n : ℕ) (p : Progress) (x : Option Duration) → Law None (settled mode n p x)
+  settled_law n p None = finish_law n p (finish mode p.hold_position)
+  settled_law n p (Some l) = tt
 
   pub switch_law : (p : Switch) → Law (mode_ask p) (switch_step mode timeout e p a)
   switch_law Starting = tt
@@ -216,7 +213,7 @@ module _ (mode : ControlMode) (timeout : Duration) (e : Entry) (a : Answer) wher
   switch_law (Begun p (Writing n w)) = written_law n p (write_step (mode_value mode) e w a)
   switch_law (Begun p (SettleRemaining n)) = settled_law n p (sleep_up_to_reserving p.deadline (mode_read_cap timeout) (reading_of a))
   switch_law (Begun p (SettleSleep n l)) = finish_law n p (finish mode p.hold_position)
-  switch_law (Begun p (Holding n)) = finish_law n p (held (send_outcome a))
+  switch_law (Begun p (Holding n)) = held_law n p (send_outcome a)
 
 -- ---- a look that finds the mode ends the switch, done
 
@@ -224,25 +221,25 @@ module _ (mode : ControlMode) (timeout : Duration) (stamp : Instant) where
   abbrev holding_mode : Entry
   holding_mode = Held (mode_value mode) stamp
 
-  found_done : (which : ModeRead) (p : Progress) (l : Duration) (o : Instant) → o.0 ≤ stamp.0 → after_mode_read mode which p l (get_by Typed.UInt32 (reply_found o (fresh_entry o holding_mode))) ≡ Done
+  found_done : (which : ModeRead) (p : Progress) (l : Duration) (o : Instant) → o.0 ≤ stamp.0 → after_mode_read mode which p l (get_by Typed.UInt32 (reply_found o (fresh_entry o holding_mode))) ≡ Ok (Ends tt)
   unfolding of_type same_value type_of bits_of
   found_done which p l o fresh =
       ap (λ (b : Bool). after_mode_read mode which p l (get_by Typed.UInt32 (reply_found o (cond b holding_mode Empty)))) (le-leb o.0 stamp.0 fresh)
-      ∙ ap (λ (b : Bool). cond b Done (not_yet mode which (with_error p (Failure.Mismatch (mode_value mode))))) (eq-eqb (mode_number mode) (mode_number mode) refl)
+      ∙ ap (λ (b : Bool). cond b (Ok (Ends tt)) (not_yet mode which (with_error p (Failure.Mismatch (mode_value mode))))) (eq-eqb (mode_number mode) (mode_number mode) refl)
 
   abbrev pub EndsDone : Switch → Option Ask → Answer → Type 0
   EndsDone p None a = Unit {0}
   EndsDone p (Some Opening) a = Unit {0}
-  EndsDone p (Some (Sending o)) a = send_outcome a ≡ SendOutcome.Sent → o.0 ≤ stamp.0 → switch_step mode timeout holding_mode p a ≡ Done
+  EndsDone p (Some (Sending o)) a = send_outcome a ≡ Ok tt → o.0 ≤ stamp.0 → switch_step mode timeout holding_mode p a ≡ Ok (Ends tt)
   EndsDone p (Some (Waiting (Checking o))) a = Unit {0}
-  EndsDone p (Some (Waiting (Napping o))) a = o.0 ≤ stamp.0 → switch_step mode timeout holding_mode p a ≡ Done
+  EndsDone p (Some (Waiting (Napping o))) a = o.0 ≤ stamp.0 → switch_step mode timeout holding_mode p a ≡ Ok (Ends tt)
 
   pub ends_done : (p : Switch) (a : Answer) → EndsDone p (mode_ask p) a
   ends_done Starting a = tt
   ends_done (Begun p (Remaining which)) a = tt
   ends_done (Begun p (Reading which l Opening)) a = tt
   ends_done (Begun p (Reading which l (Sending o))) a = λ sent fresh.
-      ap (λ (x : SendOutcome). after_mode_read mode which p l (get_by Typed.UInt32 (read_by holding_mode (ask_sent o x)))) sent ∙ found_done which p l o fresh
+      ap (λ (x : Result (Unit {0}) Failure). after_mode_read mode which p l (and_then (and_then (and_then x (λ sent. Ok (Waited.Looks o))) (read_by holding_mode)) (get_by Typed.UInt32))) sent ∙ found_done which p l o fresh
   ends_done (Begun p (Reading which l (Waiting (Checking o)))) a = tt
   ends_done (Begun p (Reading which l (Waiting (Napping o)))) a = λ fresh. found_done which p l o fresh
   ends_done (Begun p HoldRemaining) a = tt
@@ -279,10 +276,10 @@ WantsSend (Send message) = Unit {0}
 WantsSend (Sleep length) = ⊥
 
 module _ (mode : ControlMode) (timeout : Duration) (e : Entry) (a : Answer) (o : Instant) where
-  abbrev pub StaysQuiet : SwitchNext → Type 0
-  StaysQuiet (Goes q) = Quiet o q
-  StaysQuiet Done = Unit {0}
-  StaysQuiet (Failed failure) = Unit {0}
+  abbrev pub StaysQuiet : Stepped Switch (Unit {0}) → Type 0
+  StaysQuiet (Ok (Goes q)) = Quiet o q
+  StaysQuiet (Ok (Ends done)) = Unit {0}
+  StaysQuiet (Err failure) = Unit {0}
 
   not_yet_quiet : (which : ModeRead) (p : Progress) → StaysQuiet (not_yet mode which p)
   not_yet_quiet First p = go mode
@@ -296,43 +293,43 @@ module _ (mode : ControlMode) (timeout : Duration) (e : Entry) (a : Answer) (o :
   not_yet_quiet (Verify (suc n)) p = tt
 
   -- a read that goes on is in its wait
-  abbrev Waits : ReadNext → Type 0
-  Waits (Read.Goes Opening) = ⊥
-  Waits (Read.Goes (Sending x)) = ⊥
-  Waits (Read.Goes (Waiting w)) = wait_opening w ≡ o
-  Waits (Read.Got value) = Unit {0}
-  Waits (Read.Failed failure) = Unit {0}
+  abbrev Waits : Stepped Ask RegisterValue → Type 0
+  Waits (Ok (Goes Opening)) = ⊥
+  Waits (Ok (Goes (Sending x))) = ⊥
+  Waits (Ok (Goes (Waiting w))) = wait_opening w ≡ o
+  Waits (Ok (Ends value)) = Unit {0}
+  Waits (Err failure) = Unit {0}
 
-  mode_read_quiet : (which : ModeRead) (p : Progress) (l : Duration) (x : ReadNext) → Waits x → StaysQuiet (after_mode_read mode which p l x)
-  mode_read_quiet which p l (Read.Goes Opening) w = w
-  mode_read_quiet which p l (Read.Goes (Sending x)) w = w
-  mode_read_quiet which p l (Read.Goes (Waiting x)) w = w
-  mode_read_quiet which p l (Read.Got v) w = go (same_value v (mode_value mode))
+  mode_read_quiet : (which : ModeRead) (p : Progress) (l : Duration) (x : Stepped Ask RegisterValue) → Waits x → StaysQuiet (after_mode_read mode which p l x)
+  mode_read_quiet which p l (Ok (Goes Opening)) w = w
+  mode_read_quiet which p l (Ok (Goes (Sending x))) w = w
+  mode_read_quiet which p l (Ok (Goes (Waiting x))) w = w
+  mode_read_quiet which p l (Ok (Ends v)) w = go (same_value v (mode_value mode))
     where
-      go : (b : Bool) → StaysQuiet (cond b Done (not_yet mode which (with_error p (Failure.Mismatch v))))
+      go : (b : Bool) → StaysQuiet (cond b (Ok (Ends tt)) (not_yet mode which (with_error p (Failure.Mismatch v))))
       go true = tt
       go false = not_yet_quiet which (with_error p (Failure.Mismatch v))
-  mode_read_quiet which p l (Read.Failed Failure.Timeout) w = not_yet_quiet which (with_error p Failure.Timeout)
-  mode_read_quiet which p l (Read.Failed (Failure.Mismatch v)) w = tt
-  mode_read_quiet which p l (Read.Failed Failure.WrongType) w = tt
-  mode_read_quiet which p l (Read.Failed Failure.SendFailed) w = tt
+  mode_read_quiet which p l (Err Failure.Timeout) w = not_yet_quiet which (with_error p Failure.Timeout)
+  mode_read_quiet which p l (Err (Failure.Mismatch v)) w = tt
+  mode_read_quiet which p l (Err Failure.WrongType) w = tt
+  mode_read_quiet which p l (Err Failure.SendFailed) w = tt
 
   -- by the law of a read
-  waits : (l : Duration) (ask : Ask) (x : ReadNext) → ((i : Instant) → Since ask a i → i ≡ o) → (ask ≡ Opening → ⊥) → GetSaw Typed.UInt32 l e ask a x → Waits x
-  waits l ask (Read.Goes Opening) same sent law = law
-  waits l ask (Read.Goes (Sending x)) same sent law = sent law.0
-  waits l ask (Read.Goes (Waiting w)) same sent law = same (wait_opening w) law
-  waits l ask (Read.Got value) same sent law = tt
-  waits l ask (Read.Failed failure) same sent law = tt
+  waits : (l : Duration) (ask : Ask) (x : Stepped Ask RegisterValue) → ((i : Instant) → Since ask a i → i ≡ o) → (ask ≡ Opening → ⊥) → GetSaw Typed.UInt32 l e ask a x → Waits x
+  waits l ask (Ok (Goes Opening)) same sent law = law
+  waits l ask (Ok (Goes (Sending x))) same sent law = sent law.0
+  waits l ask (Ok (Goes (Waiting w))) same sent law = same (wait_opening w) law
+  waits l ask (Ok (Ends value)) same sent law = tt
+  waits l ask (Err failure) same sent law = tt
 
   abbrev IsSent : Ask → Type 0
   IsSent Opening = ⊥
   IsSent (Sending x) = Unit {0}
   IsSent (Waiting w) = Unit {0}
 
-  hold_timed_quiet : (p : Progress) (x : TimeLeft) → StaysQuiet (after_prepare (hold_timed p x))
-  hold_timed_quiet p Left.None = tt
-  hold_timed_quiet p (Left.Some l) = tt
+  hold_timed_quiet : (p : Progress) (x : Option Duration) → StaysQuiet (after_prepare (hold_timed p x))
+  hold_timed_quiet p None = tt
+  hold_timed_quiet p (Some l) = tt
 
   reading_quiet : (which : ModeRead) (p : Progress) (l : Duration) (ask : Ask) → IsSent ask → ((i : Instant) → Since ask a i → i ≡ o) → StaysQuiet (after_mode_read mode which p l (get_step Typed.UInt32 l e ask a))
   reading_quiet which p l ask sent same =

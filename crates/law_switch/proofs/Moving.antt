@@ -1,5 +1,5 @@
 -- Where each sleep of a switch moves the clock on, its readings are fine for the laws of its definition. Assumes nothing.
-use Rattle.std.specs.Prelude.{None, Option, Some}
+use Rattle.std.specs.Prelude.{None, Option, Some, Ok}
 use Prim.Native.Nat.{◌≤◌}
 use mathlib.Core.Path.{◌≡◌, refl, sym}
 use mathlib.Core.Bool.{true, true≢false}
@@ -48,7 +48,7 @@ module _ (told_by : Head) (k : Known) (l : Instant) (h : Head) (since : l.0 ≤ 
       go None b m = tt
       go (Some r) b m = (omega arith, m r refl)
 
-  pub goes_on : (w : Want) (a : Answer) → fits w a ≡ true → answer_accepted h.last a ≡ true → Pending k (reading_or a next) → Moves k.last (Told.Want (caller_want told_by w)) (reading_or a next) → Goes_on w a k h next
+  pub goes_on : (w : Want) (a : Answer) → fits w a ≡ true → answer_accepted h.last a ≡ true → Pending k (reading_or a next) → Moves k.last (Ok (Told.Want (caller_want told_by w))) (reading_or a next) → Goes_on w a k h next
   unfolding reading_or Moved
   goes_on Clock (Reading t) f e p m = record { is_fine = later t (between h.last t e).0 p; behind = omega arith; pending = λ r t e n. tt; read = refl }
   goes_on Clock (Sending result) f e p m = absurd (true≢false (sym f))

@@ -1,5 +1,5 @@
 -- What every call keeps of a session, and the reply of register 10 that it leaves. Assumes nothing.
-use Rattle.std.specs.Prelude.{None, Option, Some}
+use Rattle.std.specs.Prelude.{None, Option, Some, Result, Ok, Err}
 use Prim.Native.Nat.{ℕ, ◌≤◌, ◌^◌}
 use mathlib.Core.Path.{◌≡◌, refl, sym, ap, ◌∙◌, subst}
 use mathlib.Core.List.{List, [], ◌∷◌}
@@ -16,36 +16,34 @@ use Rattle.protocol_received.specs.declared.FrameClass.{FrameClass}
 use Rattle.protocol_received.specs.declared.FrameClass.TheVariants as Class
 use Rattle.state_cache.specs.Cache.{slot_of}
 use Rattle.state_cache.specs.declared.Entry.{Entry}
-use Rattle.state_cache.specs.declared.Slot.{Slot}
 use Rattle.run_want.specs.declared.Answer.{Answer}
 use Rattle.session.specs.declared.Head.{Head}
 use Rattle.session.specs.declared.Session.{Session}
 use Rattle.session.specs.Session.{patch as patch_latest}
 use Rattle.session_frame.specs.Effects.{if_taken, of_register, slot_with}
-use Rattle.session_frame.specs.Frame.{frame_outcome, reply_of, says, take_frame}
-use Rattle.session_frame.specs.declared.FrameOutcome.{FrameOutcome}
-use Rattle.session_frame.specs.declared.FrameOutcome.TheVariants as FrameOutcome
+use Rattle.session_frame.specs.Frame.{FrameOutcome, frame_outcome, reply_of, says, take_frame}
 use Rattle.session_frame.proofs.Effects as Frame
 use Rattle.session_answer.specs.Effects.{Unchanged}
 use Rattle.session_answer.specs.Answer.{answer_run}
-use Rattle.session_step.specs.declared.Told.{Told}
-use Rattle.session_step.specs.declared.Told.TheVariants.{Want, Result, Refused}
+use Rattle.session_step.specs.declared.Told.TheVariants as Told
+use Rattle.session.proofs.Patching.{left}
+use Rattle.motor_core.specs.declared.error.Refusal.{Refusal}
+use Rattle.run_machine.specs.declared.Machine.{Machine}
 use Rattle.session_answer.specs.declared.AfterCall.{AfterCall}
 use Rattle.session_answer.proofs.Effects.{answer_keeps, answer_last, answer_refused}
 use Rattle.run_arguments.specs.Arguments.{get_start, write_start, fresh_state_start, store_start, mode_start}
 use Rattle.session_begin.specs.Begin.{begin, get_register_u32, get_register_f32, write_register_u32, write_register_f32, request_fresh_state, store_parameters, ensure_control_mode}
-use Rattle.run_arguments.specs.declared.StartCheck.{StartCheck}
-use Rattle.session_begin.proofs.Effects.{start_keeps, start_refused}
-use Rattle.law_switch.specs.Claim.{Start, get_u32, get_f32, write_u32, write_f32, fresh_state, store, switch, Call, start, answer, frame_lent, patch, Returned, told, patched, start_run, step, events, session_after, mode_reply_by, mode_reply, replied, taken_in, reply_with, last_reply, Refusal}
+use Rattle.session_begin.proofs.Effects.{start_keeps, start_last, start_refused}
+use Rattle.law_switch.specs.Claim.{Start, get_u32, get_f32, write_u32, write_f32, fresh_state, store, switch, Call, start, answer, frame_lent, patch, Returned, told, patched, start_run, step, events, session_after, mode_reply_by, mode_reply, replied, taken_in, reply_with, last_reply, Answered, IsRefusal}
 
 -- every start is a beginning
-abbrev pub starting : Start → StartCheck
+abbrev pub starting : Start → Result Machine Refusal
 starting (get_u32 rid timeout) = get_start UInt32 rid timeout
 starting (get_f32 rid timeout) = get_start Float rid timeout
 starting (write_u32 rid value) = write_start rid (Value.UInt32 value)
 starting (write_f32 rid value) = write_start rid (value_of Float value.0)
 starting (fresh_state timeout) = fresh_state_start timeout
-starting store = store_start
+starting store = Ok store_start
 starting (switch mode timeout) = mode_start mode timeout
 
 pub is_beginning : (s : Session) (b : Start) → start_run s b ≡ begin s (starting b)
@@ -60,7 +58,7 @@ is_beginning s (switch mode timeout) = refl
 
 -- the reply of register 10 in the cache
 abbrev pub mode_entry : Session → Entry
-mode_entry s = (slot_of s.replies 10).entry
+mode_entry s = slot_of s.replies 10
 
 -- what holds of every session in the list: ids and limits of the first, its caches' size, its last reading's bound
 pub record Sound (h : Head) (s : Session) : Type 0 where
@@ -83,13 +81,14 @@ module _ (h : Head) (s : Session) (sound : Sound h s) where
   pub start_sound : (b : Start) → Sound h (start_run s b).session
   start_sound b =
       subst (λ (t : AfterCall). Sound h t.session) (sym (is_beginning s b))
-      (run_sound (begin s (starting b)).session (start_keeps s (starting b)) sound.last)
+      (run_sound (begin s (starting b)).session (start_keeps s (starting b)) (subst (λ (l : Instant). l.0 ≤ 2 ^ 62) (sym (start_last s (starting b))) sound.last))
 
   pub answer_sound : (a : Answer) → Sound h (answer_run s a).session
   answer_sound a = run_sound (answer_run s a).session (answer_keeps s a) ((answer_last s a).1 sound.last)
 
   pub patch_sound : (status mos rotor : ℕ) → Sound h (patch_latest s status mos rotor).session
-  patch_sound status mos rotor = record { motor_id = sound.motor_id; limits = sound.limits; replies = sound.replies; last = sound.last }
+  patch_sound status mos rotor = let kept = left s status mos rotor in
+      record { motor_id = kept.motor_id ∙ sound.motor_id; limits = kept.limits ∙ sound.limits; replies = ap length kept.replies ∙ sound.replies; last = subst (λ (l : Instant). l.0 ≤ 2 ^ 62) (sym kept.last) sound.last }
 
   pub frame_sound : (f : CanFrame) (t : Instant) → Sound h (take_frame s f t).session
   frame_sound f t = record {
@@ -102,10 +101,10 @@ module _ (h : Head) (s : Session) (sound : Sound h s) where
   -- ---- the reply of register 10 after each call
 
   pub start_entry : (b : Start) → mode_entry (start_run s b).session ≡ mode_entry s
-  start_entry b = ap (λ (t : AfterCall). mode_entry t.session) (is_beginning s b)
+  start_entry b = ap (λ (t : AfterCall). mode_entry t.session) (is_beginning s b) ∙ ap (λ (slots : List Entry). slot_of slots 10) (start_keeps s (starting b)).replies
 
   pub answer_entry : (a : Answer) → mode_entry (answer_run s a).session ≡ mode_entry s
-  answer_entry a = ap (λ (slots : List Slot). (slot_of slots 10).entry) (answer_keeps s a).replies
+  answer_entry a = ap (λ (slots : List Entry). slot_of slots 10) (answer_keeps s a).replies
 
   -- a frame's, as the claim reads it
   said : (l : PvTLimits) (f : CanFrame) → of_register 10 (reply_of (received l f.«data»)) ≡ mode_reply f
@@ -117,17 +116,17 @@ module _ (h : Head) (s : Session) (sound : Sound h s) where
       go Class.Ack = refl
       go Class.Feedback = refl
 
-  with_reply : (v : Option RegisterValue) (t : Instant) (slot : Slot) → (slot_with v t slot).entry ≡ replied slot.entry t v
+  with_reply : (v : Option RegisterValue) (t : Instant) (slot : Entry) → slot_with v t slot ≡ replied slot t v
   with_reply None t slot = refl
   with_reply (Some value) t slot = refl
 
   pub frame_entry : (f : CanFrame) (t : Instant) → mode_entry (take_frame s f t).session ≡ taken_in (mode_entry s) f t (Returned.frame (take_frame s f t).outcome)
   unfolding take_frame taken_in
-  frame_entry f t = ap (λ (slot : Slot). slot.entry) (Frame.reply_after_frame s f t 10 sound.replies) ∙ go (frame_outcome s.head f t)
+  frame_entry f t = Frame.reply_after_frame s f t 10 sound.replies ∙ go (frame_outcome s.head f t)
     where
-      go : (o : FrameOutcome) → (slot_with (of_register 10 (if_taken o (reply_of (says s.head f)))) t (slot_of s.replies 10)).entry ≡ taken_in (mode_entry s) f t (Returned.frame o)
-      go FrameOutcome.Taken = with_reply (of_register 10 (reply_of (says s.head f))) t (slot_of s.replies 10) ∙ ap (replied (mode_entry s) t) (said s.head.limits f)
-      go (FrameOutcome.Refused n) = refl
+      go : (o : FrameOutcome) → slot_with (of_register 10 (if_taken o (reply_of (says s.head f)))) t (slot_of s.replies 10) ≡ taken_in (mode_entry s) f t (Returned.frame o)
+      go (Ok taken) = with_reply (of_register 10 (reply_of (says s.head f))) t (slot_of s.replies 10) ∙ ap (replied (mode_entry s) t) (said s.head.limits f)
+      go (Err n) = refl
 
 -- ---- over a list of calls
 
@@ -145,7 +144,7 @@ step_entry h s (start b) sound = start_entry h s sound b
 step_entry h s (answer a) sound = answer_entry h s sound a
 step_entry h s (Call.frame f t) sound = frame_entry h s sound f t
 step_entry h s (frame_lent f t) sound = frame_entry h s sound f t
-step_entry h s (patch status mos rotor) sound = refl
+step_entry h s (patch status mos rotor) sound = ap (λ (slots : List Entry). slot_of slots 10) (left s status mos rotor).replies
 
 pub list_sound : (h : Head) (cs : List Call) (s : Session) → Sound h s → Sound h (session_after s cs)
 unfolding session_after
@@ -162,19 +161,19 @@ list_entry h (c ∷ cs) s sound =
 
 -- ---- a refused call leaves the session that it got
 
-by_number : {P : Type 0} (t : Told) → Refusal (told t) → ((n : ℕ) → t ≡ Refused n → P) → P
-unfolding Refusal
-by_number (Want want) r f = absurd r
-by_number (Result x) r f = absurd r
-by_number (Refused n) r f = f n refl
+by_number : {P : Type 0} (t : Answered) → IsRefusal (told t) → ((n : Refusal) → t ≡ Err n → P) → P
+unfolding IsRefusal
+by_number (Ok (Told.Want want)) r f = absurd r
+by_number (Ok (Told.Result x)) r f = absurd r
+by_number (Err n) r f = f n refl
 
-frame_number : {P : Type 0} (o : FrameOutcome) → Refusal (Returned.frame o) → ((n : ℕ) → o ≡ FrameOutcome.Refused n → P) → P
-unfolding Refusal
-frame_number FrameOutcome.Taken r f = absurd r
-frame_number (FrameOutcome.Refused n) r f = f n refl
+frame_number : {P : Type 0} (o : FrameOutcome) → IsRefusal (Returned.frame o) → ((n : Refusal) → o ≡ Err n → P) → P
+unfolding IsRefusal
+frame_number (Ok taken) r f = absurd r
+frame_number (Err n) r f = f n refl
 
-pub refused_leaves : (s : Session) (c : Call) → Refusal (step s c).returned → (step s c).session ≡ s
-unfolding step Refusal
+pub refused_leaves : (s : Session) (c : Call) → IsRefusal (step s c).returned → (step s c).session ≡ s
+unfolding step IsRefusal
 refused_leaves s (start b) r =
     by_number (start_run s b).told r
     (λ n e. ap (λ (t : AfterCall). t.session) (is_beginning s b) ∙ start_refused s (starting b) n (sym (ap (λ (t : AfterCall). t.told) (is_beginning s b)) ∙ e))
@@ -183,5 +182,5 @@ refused_leaves s (Call.frame f t) r = frame_number (take_frame s f t).outcome r 
 refused_leaves s (frame_lent f t) r = frame_number (take_frame s f t).outcome r (Frame.turned_back s f t)
 refused_leaves s (patch status mos rotor) r = absurd (never r)
   where
-    never : Refusal (patched (patch_latest s status mos rotor).patched) → ⊥
+    never : IsRefusal (patched (patch_latest s status mos rotor).patched) → ⊥
     never x = x

@@ -1,5 +1,5 @@
 -- A switch is done exactly where a look of its last read of register 10 found the mode. Assumes nothing.
-use Rattle.std.specs.Prelude.{None, Option, Some}
+use Rattle.std.specs.Prelude.{None, Option, Some, Result, Ok, Err}
 use Prim.Native.Nat.{ℕ, ◌+◌, ◌≤◌}
 use mathlib.Core.Path.{◌≡◌, refl, sym, ap, ◌∙◌, subst}
 use mathlib.Core.Bool.{Bool, true, true≢false}
@@ -18,12 +18,9 @@ use Rattle.run_want.specs.Want.{fits, reading_of, send_outcome}
 use Rattle.run_want.specs.declared.Answer.{Answer}
 use Rattle.run_want.specs.declared.Answer.TheVariants as Answer
 use Rattle.run_want.specs.declared.Failure.{Failure}
-use Rattle.run_want.specs.declared.SendOutcome.{SendOutcome}
-use Rattle.run_want.specs.declared.SendOutcome.TheVariants as SendOutcome
 use Rattle.run_want.specs.declared.Want.{Want}
 use Rattle.run_want.specs.declared.Want.TheVariants.{Clock, Send, Sleep}
 use Rattle.run_want.specs.declared.message.Message.TheVariants.{ReadRegister}
-use Rattle.run_want.specs.declared.SendResult.TheVariants as SendResult
 use Rattle.run_wait.specs.Wait.{poll_interval, wait_want}
 use Rattle.run_wait.specs.declared.Wait.{Wait}
 use Rattle.run_wait.specs.declared.Wait.TheVariants.{Checking, Napping}
@@ -33,15 +30,16 @@ use Rattle.switch_stage.specs.Stage.{mode_value, switch_want, switch_place}
 use Rattle.switch_step.specs.Switch.{switch_step}
 use Rattle.switch_stage.specs.declared.Switch.{Switch}
 use Rattle.switch_stage.specs.declared.Switch.TheVariants.{Starting}
-use Rattle.switch_stage.specs.declared.SwitchNext.{SwitchNext}
-use Rattle.switch_stage.specs.declared.SwitchNext.TheVariants.{Goes, Done, Failed}
-use Rattle.run_machine.specs.declared.RunResult.{RunResult}
-use Rattle.run_machine.specs.declared.RunResult.TheVariants as Result
+use Rattle.run_machine.specs.Machine.{RunResult}
+use Rattle.run_machine.specs.declared.Outcome.TheVariants as Outcome
 use Rattle.session.specs.declared.Head.{Head}
 use Rattle.session.specs.declared.Session.{Session}
 use Rattle.session_step.specs.Parts.{caller_want, with_reading}
 use Rattle.session_step.specs.declared.Told.TheVariants as Told
 use Rattle.law_runs.specs.Ends.{wait_opening, Look, Since}
+use Rattle.run_want.specs.Step.{Stepped}
+use Rattle.run_want.specs.declared.step.Step.TheVariants.{Goes, Ends}
+use Rattle.motor_core.proofs.Turned.{clash}
 use Rattle.law_switch.specs.Claim.{Gave, Turn, gaves, once, count, a_send, on_7ff, wants_send, reads_mode, mode_read, result_of, reading_or, gave_after, reading_after, Looks, Found, a_want, send_to}
 use Rattle.law_switch.proofs.ModeReads.{mode_ask, in_read, ask_of, Saw, Entered, Law, switch_law, EndsDone, ends_done, Quiet, WantsSend, StaysQuiet, sending_quiet, stays_quiet, quiet_sleep}
 use Rattle.law_switch.proofs.Ran.{gave_want, gave_result, Took, Onward, onward_cases, Ran}
@@ -55,21 +53,16 @@ clock_read r (Answer.Reading t) f = refl
 clock_read r (Answer.Send result) f = absurd (true≢false (sym f))
 clock_read r Answer.Slept f = absurd (true≢false (sym f))
 
-is_sent : (a : Answer) (m : Want) → fits m a ≡ true → m ≡ Send (ReadRegister 10) → send_outcome a ≡ SendOutcome.Sent → a ≡ Answer.Send SendResult.Sent
+is_sent : (a : Answer) (m : Want) → fits m a ≡ true → m ≡ Send (ReadRegister 10) → send_outcome a ≡ Ok tt → a ≡ Answer.Send (Ok tt)
 is_sent a m f w s = go a (subst (λ (x : Want). fits x a ≡ true) w f) s
   where
-    Fails : SendOutcome → Type 0
-    Fails SendOutcome.Sent = ⊥
-    Fails (SendOutcome.Failed y) = Unit {0}
+    never : (x : Failure) → ◌≡◌ {A = Result (Unit {0}) Failure} (Err x) (Ok tt) → ⊥
+    never x e = clash (cc)
 
-    never : (x : Failure) → SendOutcome.Failed x ≡ SendOutcome.Sent → ⊥
-    never x e = subst Fails e tt
-
-    go : (a : Answer) → fits (Send (ReadRegister 10)) a ≡ true → send_outcome a ≡ SendOutcome.Sent → a ≡ Answer.Send SendResult.Sent
+    go : (a : Answer) → fits (Send (ReadRegister 10)) a ≡ true → send_outcome a ≡ Ok tt → a ≡ Answer.Send (Ok tt)
     go (Answer.Reading t) f s = absurd (true≢false (sym f))
-    go (Answer.Send SendResult.Sent) f s = refl
-    go (Answer.Send SendResult.Timeout) f s = absurd (never _ s)
-    go (Answer.Send SendResult.Failed) f s = absurd (never _ s)
+    go (Answer.Send (Ok sent)) f s = refl
+    go (Answer.Send (Err error)) f s = absurd (never _ s)
     go Answer.Slept f s = absurd (true≢false (sym f))
 
 is_slept : (a : Answer) (d : Duration) → fits (Sleep d) a ≡ true → a ≡ Answer.Slept
@@ -83,15 +76,12 @@ abbrev or_else : Instant → Option Instant → Instant
 or_else i None = i
 or_else i (Some o) = o
 
-not_done : (failure : Failure) → Some (Result.Failed failure) ≡ Some Result.Done → ⊥
+not_done : (failure : Failure) → ◌≡◌ {A = Option RunResult} (Some (Err failure)) (Some (Ok Outcome.Done)) → ⊥
 not_done failure e = subst IsDone (sym e) tt
   where
     done : RunResult → Type 0
-    done Result.Done = Unit {0}
-    done (Result.Value value) = ⊥
-    done (Result.State state) = ⊥
-    done Result.NoState = ⊥
-    done (Result.Failed x) = ⊥
+    done (Ok outcome) = Unit {0}
+    done (Err x) = ⊥
 
     IsDone : Option RunResult → Type 0
     IsDone None = ⊥
@@ -144,27 +134,27 @@ module _ (h : Head) (mode : ControlMode) (timeout : Duration) where
   is_read p o e = reads_alike h mode p ∙ ap (λ (w : Want). wants_send reads_mode (Some w)) (in_read mode p (Sending o) e).0
 
   -- and what it wants in its wait is no send
-  no_read : (w : Want) (x : Wait) → w ≡ wait_want x → reads_in (record { told = Told.Want (caller_want h w); wants = Some w }) ≡ 0
+  no_read : (w : Want) (x : Wait) → w ≡ wait_want x → reads_in (record { told = Ok (Told.Want (caller_want h w)); wants = Some w }) ≡ 0
   unfolding a_want send_to wants_send
-  no_read w (Checking o) e = ap (λ (w : Want). reads_in (record { told = Told.Want (caller_want h w); wants = Some w })) e
-  no_read w (Napping o) e = ap (λ (w : Want). reads_in (record { told = Told.Want (caller_want h w); wants = Some w })) e
+  no_read w (Checking o) e = ap (λ (w : Want). reads_in (record { told = Ok (Told.Want (caller_want h w)); wants = Some w })) e
+  no_read w (Napping o) e = ap (λ (w : Want). reads_in (record { told = Ok (Told.Want (caller_want h w)); wants = Some w })) e
 
-  no_send : (w : Want) (x : Wait) → w ≡ wait_want x → sends_in (record { told = Told.Want (caller_want h w); wants = Some w }) ≡ 0
+  no_send : (w : Want) (x : Wait) → w ≡ wait_want x → sends_in (record { told = Ok (Told.Want (caller_want h w)); wants = Some w }) ≡ 0
   unfolding a_want send_to
-  no_send w (Checking o) e = ap (λ (w : Want). sends_in (record { told = Told.Want (caller_want h w); wants = Some w })) e
-  no_send w (Napping o) e = ap (λ (w : Want). sends_in (record { told = Told.Want (caller_want h w); wants = Some w })) e
+  no_send w (Checking o) e = ap (λ (w : Want). sends_in (record { told = Ok (Told.Want (caller_want h w)); wants = Some w })) e
+  no_send w (Napping o) e = ap (λ (w : Want). sends_in (record { told = Ok (Told.Want (caller_want h w)); wants = Some w })) e
 
   -- a read that is sent opened with the last reading
   abbrev pub Opened : Option Instant → Switch → Type 0
   Opened r p = (o : Instant) → mode_ask p ≡ Some (Sending o) → r ≡ Some o
 
-  pub opened_on : (p q : Switch) (r : Option Instant) (e : Entry) (a : Answer) → fits (switch_want mode p) a ≡ true → switch_step mode timeout e p a ≡ Goes q → Opened (reading_or a r) q
+  pub opened_on : (p q : Switch) (r : Option Instant) (e : Entry) (a : Answer) → fits (switch_want mode p) a ≡ true → switch_step mode timeout e p a ≡ Ok (Goes q) → Opened (reading_or a r) q
   opened_on p q r e a f goes o is =
       let entered : Entered mode timeout e a (mode_ask p) (Some (Sending o)) = subst (λ (x : Option Ask). Entered mode timeout e a (mode_ask p) x) is (law goes) in
       clock_read r a (subst (λ (w : Want). fits w a ≡ true) (in_read mode p Opening entered.0).0 f) ∙ ap Some entered.1
     where
-      law : switch_step mode timeout e p a ≡ Goes q → Entered mode timeout e a (mode_ask p) (mode_ask q)
-      law goes = subst (λ (x : SwitchNext). Law mode timeout e a (mode_ask p) x) goes (switch_law mode timeout e a p)
+      law : switch_step mode timeout e p a ≡ Ok (Goes q) → Entered mode timeout e a (mode_ask p) (mode_ask q)
+      law goes = subst (λ (x : Stepped Switch (Unit {0})). Law mode timeout e a (mode_ask p) x) goes (switch_law mode timeout e a p)
 
   -- ---- done, so found
 
@@ -203,11 +193,11 @@ module _ (h : Head) (mode : ControlMode) (timeout : Duration) where
   }
 
   module _ (p : Switch) (l : Instant) (r : Option Instant) (opened : Opened r p) (t : Turn) (ts : List Turn) (k : Took h mode timeout p l t) where
-    abbrev next : SwitchNext
+    abbrev next : Stepped Switch (Unit {0})
     next = switch_step mode timeout k.entry p t.answer
 
-    law : (x : SwitchNext) → next ≡ x → Law mode timeout k.entry t.answer (mode_ask p) x
-    law x e = subst (λ (x : SwitchNext). Law mode timeout k.entry t.answer (mode_ask p) x) e (switch_law mode timeout k.entry t.answer p)
+    law : (x : Stepped Switch (Unit {0})) → next ≡ x → Law mode timeout k.entry t.answer (mode_ask p) x
+    law x e = subst (λ (x : Stepped Switch (Unit {0})). Law mode timeout k.entry t.answer (mode_ask p) x) e (switch_law mode timeout k.entry t.answer p)
 
     -- what comes after, in the wait
     seek_waited : (q : Switch) (w : Wait) → t.gave ≡ want_of q → mode_ask q ≡ Some (Waiting w) → InWait (wait_opening w) ts → (ask : Ask) → mode_ask p ≡ Some ask → Since ask t.answer (wait_opening w) → Sought r p (t ∷ ts)
@@ -251,14 +241,14 @@ module _ (h : Head) (mode : ControlMode) (timeout : Duration) where
           },
         )
 
-    seek_goes : (q : Switch) → next ≡ Goes q → t.gave ≡ want_of q → Sought (reading_or t.answer r) q ts → Sought r p (t ∷ ts)
+    seek_goes : (q : Switch) → next ≡ Ok (Goes q) → t.gave ≡ want_of q → Sought (reading_or t.answer r) q ts → Sought r p (t ∷ ts)
     seek_goes q e gave (inl f) = inl (extend r (want_of p) t ts (subst (λ (g : Gave). Succeeds (reading_or t.answer r) g ts) (sym gave) f))
     seek_goes q e gave (inr (w, is, x)) =
-        let entered : Entered mode timeout k.entry t.answer (mode_ask p) (Some (Waiting w)) = subst (λ (o : Option Ask). Entered mode timeout k.entry t.answer (mode_ask p) o) is (law (Goes q) e) in
+        let entered : Entered mode timeout k.entry t.answer (mode_ask p) (Some (Waiting w)) = subst (λ (o : Option Ask). Entered mode timeout k.entry t.answer (mode_ask p) o) is (law (Ok (Goes q)) e) in
         seek_waited q w gave is x entered.0 entered.1 entered.2
 
     -- where it ends
-    seek_look : (ask : Ask) (o stamp : Instant) → t.gave ≡ gave_result h mode timeout Result.Done → ts ≡ [] → mode_ask p ≡ Some ask → Look ask t.answer o → k.entry ≡ Held (mode_value mode) stamp → o.0 ≤ stamp.0 → Sought r p (t ∷ ts)
+    seek_look : (ask : Ask) (o stamp : Instant) → t.gave ≡ gave_result h mode timeout (Ok Outcome.Done) → ts ≡ [] → mode_ask p ≡ Some ask → Look ask t.answer o → k.entry ≡ Held (mode_value mode) stamp → o.0 ≤ stamp.0 → Sought r p (t ∷ ts)
     unfolding gave_after reading_after gaves count Looks a_want send_to
     seek_look Opening o stamp gave stop at look holds fresh = absurd look
     seek_look (Sending x) o stamp gave stop at look holds fresh =
@@ -296,35 +286,35 @@ module _ (h : Head) (mode : ControlMode) (timeout : Duration) where
           },
         )
 
-    seek_done : next ≡ Done → t.gave ≡ gave_result h mode timeout Result.Done → ts ≡ [] → Sought r p (t ∷ ts)
+    seek_done : next ≡ Ok (Ends tt) → t.gave ≡ gave_result h mode timeout (Ok Outcome.Done) → ts ≡ [] → Sought r p (t ∷ ts)
     seek_done e gave stop =
-        let s : Saw mode timeout k.entry t.answer (mode_ask p) = law Done e in
+        let s : Saw mode timeout k.entry t.answer (mode_ask p) = law (Ok (Ends tt)) e in
         seek_look s.read s.opening s.found.stamp gave stop s.is s.look s.found.holds s.found.fresh
 
-    onward_sought : (R : Switch → Type 0) → ((q : Switch) → R q → Opened (reading_or t.answer r) q → result_of ts ≡ Some Result.Done → Sought (reading_or t.answer r) q ts)
-        → (x : SwitchNext) → next ≡ x → Onward h mode timeout R x t ts → result_of (t ∷ ts) ≡ Some Result.Done → Sought r p (t ∷ ts)
-    onward_sought R rest (Goes q) e (gave, ran) done = seek_goes q e gave (rest q ran (opened_on p q r k.entry t.answer k.fit e) (sym (want_on h mode timeout t ts q gave) ∙ done))
-    onward_sought R rest Done e (gave, stop) done = seek_done e gave stop
-    onward_sought R rest (Failed failure) e (gave, stop) done = absurd (not_done failure (sym (end_of h mode timeout t ts (Result.Failed failure) gave) ∙ done))
+    onward_sought : (R : Switch → Type 0) → ((q : Switch) → R q → Opened (reading_or t.answer r) q → result_of ts ≡ Some (Ok Outcome.Done) → Sought (reading_or t.answer r) q ts)
+        → (x : Stepped Switch (Unit {0})) → next ≡ x → Onward h mode timeout R x t ts → result_of (t ∷ ts) ≡ Some (Ok Outcome.Done) → Sought r p (t ∷ ts)
+    onward_sought R rest (Ok (Goes q)) e (gave, ran) done = seek_goes q e gave (rest q ran (opened_on p q r k.entry t.answer k.fit e) (sym (want_on h mode timeout t ts q gave) ∙ done))
+    onward_sought R rest (Ok (Ends ended)) e (gave, stop) done = seek_done e gave stop
+    onward_sought R rest (Err failure) e (gave, stop) done = absurd (not_done failure (sym (end_of h mode timeout t ts (Err failure) gave) ∙ done))
 
-  sought : (z : Session) (ts : List Turn) (p : Switch) (l : Instant) (r : Option Instant) → Ran h mode timeout z p l ts → Opened r p → result_of ts ≡ Some Result.Done → Sought r p ts
+  sought : (z : Session) (ts : List Turn) (p : Switch) (l : Instant) (r : Option Instant) → Ran h mode timeout z p l ts → Opened r p → result_of ts ≡ Some (Ok Outcome.Done) → Sought r p ts
   unfolding Ran result_of
-  sought z [] p l r ran opened done = absurd (None≢Some done)
+  sought z [] p l r ran opened done = absurd (none≢some done)
   sought z (t ∷ ts) p l r (k, on) opened done =
       let l' = (with_reading k.head t.answer).last in
       onward_sought p l r opened t ts k (λ q. Ran h mode timeout z q l' ts) (λ q ran o d. sought z ts q l' (reading_or t.answer r) ran o d) (switch_step mode timeout k.entry p t.answer) refl on done
 
   -- from the start on
-  pub done_found : (z : Session) (ts : List Turn) (l : Instant) → Ran h mode timeout z Starting l ts → result_of ts ≡ Some Result.Done → Succeeds None (want_of Starting) ts
-  done_found z ts l ran done = go (sought z ts Starting l None ran (λ o e. absurd (None≢Some e)) done)
+  pub done_found : (z : Session) (ts : List Turn) (l : Instant) → Ran h mode timeout z Starting l ts → result_of ts ≡ Some (Ok Outcome.Done) → Succeeds None (want_of Starting) ts
+  done_found z ts l ran done = go (sought z ts Starting l None ran (λ o e. absurd (none≢some e)) done)
     where
       go : Sought None Starting ts → Succeeds None (want_of Starting) ts
       go (inl f) = f
-      go (inr (w, e, x)) = absurd (None≢Some e)
+      go (inr (w, e, x)) = absurd (none≢some e)
 
   -- ---- found, so done
 
-  silent_want : (w : Want) → sends_in (record { told = Told.Want (caller_want h w); wants = Some w }) ≡ 0 → WantsSend w → ⊥
+  silent_want : (w : Want) → sends_in (record { told = Ok (Told.Want (caller_want h w)); wants = Some w }) ≡ 0 → WantsSend w → ⊥
   unfolding a_want send_to
   silent_want Clock e s = s
   silent_want (Send message) e s = omega arith
@@ -357,23 +347,23 @@ module _ (h : Head) (mode : ControlMode) (timeout : Duration) where
 
     -- the look
     module _ (look : Turn) (later : List Turn) (o stamp : Instant) (finds : look.sees ≡ Held (UInt32 number) stamp) (fresh : o.0 ≤ stamp.0) where
-      look_ends : (p : Switch) (l : Instant) → Runs p l (look ∷ later) → switch_place p ≡ Reply 10 → switch_step mode timeout (Held (mode_value mode) stamp) p look.answer ≡ Done → result_of (look ∷ later) ≡ Some Result.Done
+      look_ends : (p : Switch) (l : Instant) → Runs p l (look ∷ later) → switch_place p ≡ Reply 10 → switch_step mode timeout (Held (mode_value mode) stamp) p look.answer ≡ Ok (Ends tt) → result_of (look ∷ later) ≡ Some (Ok Outcome.Done)
       unfolding Ran
       look_ends p l (k, on) place done =
-          let e : switch_step mode timeout k.entry p look.answer ≡ Done = ap (λ (e : Entry). switch_step mode timeout e p look.answer) (k.sees place ∙ finds) ∙ done in
-          let ended = subst (λ (x : SwitchNext). Onward h mode timeout (λ q. Runs q (with_reading k.head look.answer).last later) x look later) e on in
-          end_of h mode timeout look later Result.Done ended.0
+          let e : switch_step mode timeout k.entry p look.answer ≡ Ok (Ends tt) = ap (λ (e : Entry). switch_step mode timeout e p look.answer) (k.sees place ∙ finds) ∙ done in
+          let ended = subst (λ (x : Stepped Switch (Unit {0})). Onward h mode timeout (λ q. Runs q (with_reading k.head look.answer).last later) x look later) e on in
+          end_of h mode timeout look later (Ok Outcome.Done) ended.0
 
-      sent_done : (p : Switch) (l : Instant) → Runs p l (look ∷ later) → mode_ask p ≡ Some (Sending o) → look.answer ≡ Answer.Send SendResult.Sent → result_of (look ∷ later) ≡ Some Result.Done
+      sent_done : (p : Switch) (l : Instant) → Runs p l (look ∷ later) → mode_ask p ≡ Some (Sending o) → look.answer ≡ Answer.Send (Ok tt) → result_of (look ∷ later) ≡ Some (Ok Outcome.Done)
       sent_done p l ran at sent =
           look_ends p l ran (in_read mode p (Sending o) at).1 (subst (λ (x : Option Ask). EndsDone mode timeout stamp p x look.answer) at (ends_done mode timeout stamp p look.answer) (ap send_outcome sent) fresh)
 
-      slept_done : (p : Switch) (l : Instant) → Runs p l (look ∷ later) → mode_ask p ≡ Some (Waiting (Napping o)) → result_of (look ∷ later) ≡ Some Result.Done
+      slept_done : (p : Switch) (l : Instant) → Runs p l (look ∷ later) → mode_ask p ≡ Some (Waiting (Napping o)) → result_of (look ∷ later) ≡ Some (Ok Outcome.Done)
       slept_done p l ran at =
           look_ends p l ran (in_read mode p (Waiting (Napping o)) at).1 (subst (λ (x : Option Ask). EndsDone mode timeout stamp p x look.answer) at (ends_done mode timeout stamp p look.answer) fresh)
 
       module _ (slept : look.answer ≡ Answer.Slept) where
-        quiet_done : (us : List Turn) (p : Switch) (l : Instant) → Runs p l (us ++ (look ∷ later)) → Quiet o p → sends_in (want_of p) ≡ 0 → count sending (gaves us) ≡ 0 → result_of (us ++ (look ∷ later)) ≡ Some Result.Done
+        quiet_done : (us : List Turn) (p : Switch) (l : Instant) → Runs p l (us ++ (look ∷ later)) → Quiet o p → sends_in (want_of p) ≡ 0 → count sending (gaves us) ≡ 0 → result_of (us ++ (look ∷ later)) ≡ Some (Ok Outcome.Done)
         unfolding Ran gaves count
         quiet_done [] p l ran quiet silent none_sent =
             slept_done p l ran (quiet_sleep mode o p quiet (subst (λ (a : Answer). fits (switch_want mode p) a ≡ true) slept ran.0.fit))
@@ -385,7 +375,7 @@ module _ (h : Head) (mode : ControlMode) (timeout : Duration) where
             (sym (ap sends_in gave) ∙ first_zero (sends_in u.gave) _ none_sent) (rest_zero (sends_in u.gave) _ none_sent))
             (λ r e gave stop. absurd (not_empty us look later stop))
 
-        waited_done : (u : Turn) (us : List Turn) (p : Switch) (l : Instant) → Runs p l (u ∷ (us ++ (look ∷ later))) → mode_ask p ≡ Some (Sending o) → count sending (gaves (u ∷ us)) ≡ 0 → result_of (u ∷ (us ++ (look ∷ later))) ≡ Some Result.Done
+        waited_done : (u : Turn) (us : List Turn) (p : Switch) (l : Instant) → Runs p l (u ∷ (us ++ (look ∷ later))) → mode_ask p ≡ Some (Sending o) → count sending (gaves (u ∷ us)) ≡ 0 → result_of (u ∷ (us ++ (look ∷ later))) ≡ Some (Ok Outcome.Done)
         unfolding Ran gaves count
         waited_done u us p l (k, on) at none_sent =
             onward_cases h mode timeout (λ q. Runs q (with_reading k.head u.answer).last (us ++ (look ∷ later))) u (us ++ (look ∷ later)) (switch_step mode timeout k.entry p u.answer) on
@@ -394,7 +384,7 @@ module _ (h : Head) (mode : ControlMode) (timeout : Duration) where
             (sym (ap sends_in gave) ∙ first_zero (sends_in u.gave) _ none_sent) (rest_zero (sends_in u.gave) _ none_sent))
             (λ r e gave stop. absurd (not_empty us look later stop))
 
-    pub found_done : (ts : List Turn) (p : Switch) (l : Instant) (r : Option Instant) → Runs p l ts → Opened r p → Succeeds r (want_of p) ts → result_of ts ≡ Some Result.Done
+    pub found_done : (ts : List Turn) (p : Switch) (l : Instant) (r : Option Instant) → Runs p l ts → Opened r p → Succeeds r (want_of p) ts → result_of ts ≡ Some (Ok Outcome.Done)
     unfolding Looks
     found_done ts p l r ran opened f =
         let ts' = f.waited ++ (f.look ∷ f.later) in
@@ -404,6 +394,6 @@ module _ (h : Head) (mode : ControlMode) (timeout : Duration) where
         let same : at.0 ≡ f.opening = ap (or_else f.opening) (sym (reached.opened at.0 at.1) ∙ f.opens) in
         ap result_of f.whole ∙ x.1 ∙ go f.waited reached.at reached.from reached.ran (at.1 ∙ ap (λ (o : Instant). Some (Sending o)) same) f.looks
       where
-        go : (us : List Turn) (q : Switch) (l : Instant) → Runs q l (us ++ (f.look ∷ f.later)) → mode_ask q ≡ Some (Sending f.opening) → Looks us f.look.answer → result_of (us ++ (f.look ∷ f.later)) ≡ Some Result.Done
+        go : (us : List Turn) (q : Switch) (l : Instant) → Runs q l (us ++ (f.look ∷ f.later)) → mode_ask q ≡ Some (Sending f.opening) → Looks us f.look.answer → result_of (us ++ (f.look ∷ f.later)) ≡ Some (Ok Outcome.Done)
         go [] q l ran at looks = sent_done f.look f.later f.opening f.stamp f.finds f.fresh q l ran at looks
         go (u ∷ us) q l ran at looks = waited_done f.look f.later f.opening f.stamp f.finds f.fresh looks.2 u us q l ran at looks.1

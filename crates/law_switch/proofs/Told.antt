@@ -1,5 +1,5 @@
 -- What a phase gives, as the claim counts it, is what the phase wants. Assumes nothing.
-use Rattle.std.specs.Prelude.{Some}
+use Rattle.std.specs.Prelude.{Some, Ok}
 use Prim.Native.Nat.{ℕ, ◌/◌, ◌^◌}
 use mathlib.Core.Path.{◌≡◌, refl, sym, ap, ◌∙◌, subst}
 use mathlib.Core.Bool.{Bool, true, false, not, ◌&&◌, ◌||◌, true≢false}
@@ -9,6 +9,7 @@ use borrow.Author.Tests.{eqb-true, eq-eqb}
 use lib.Dec.{eqb}
 use Rattle.registers.specs.Value.{bits_of}
 use Rattle.protocol_frame.specs.Layout.{packed_onto, little_endian, bytes}
+use Rattle.protocol_frame.specs.Command.{command}
 use Rattle.protocol_request.specs.Request.{addressed, register_read_data, register_write_data}
 use Rattle.protocol_hold.specs.Mode.{mode_number, hold_id, hold_data}
 use Rattle.protocol_hold.specs.declared.ControlMode.{ControlMode}
@@ -141,7 +142,7 @@ module _ (motor : ℕ) where
       at ForcePos e = let is : motor ≡ 0x4ff = omega arith in ap shared is
 
   -- so it is neither, by its id or by what the definition wants
-  hold_neither : (of : ℕ → Bool) (mode : ControlMode) (bytes : ℕ) → (on_7ff of (Told.Want (Wanted.Send (hold_id motor mode) bytes)) && (not (shared motor) || false)) ≡ false
+  hold_neither : (of : ℕ → Bool) (mode : ControlMode) (bytes : ℕ) → (on_7ff of (Ok (Told.Want (Wanted.Send (command (hold_id motor mode) bytes)))) && (not (shared motor) || false)) ≡ false
   unfolding a_want send_to
   hold_neither of mode bytes = go (shared motor) refl
     where
@@ -151,13 +152,13 @@ module _ (motor : ℕ) where
 
 module _ (h : Head) where
   -- of any want
-  pub sends_count : (w : Want) → once (a_send (Told.Want (caller_want h w))) ≡ counted 0 each 0 w
+  pub sends_count : (w : Want) → once (a_send (Ok (Told.Want (caller_want h w)))) ≡ counted 0 each 0 w
   unfolding a_want send_to
   sends_count Clock = refl
   sends_count (Send message) = refl
   sends_count (Sleep length) = refl
 
-  pub sleeps_count : (w : Want) → once (a_sleep (Told.Want (caller_want h w))) ≡ counted 0 (λ command. 0) 1 w
+  pub sleeps_count : (w : Want) → once (a_sleep (Ok (Told.Want (caller_want h w)))) ≡ counted 0 (λ command. 0) 1 w
   unfolding a_want is_sleep
   sleeps_count Clock = refl
   sleeps_count (Send message) = refl
@@ -182,7 +183,7 @@ module _ (h : Head) where
 
   -- what a want gives
   abbrev gives : Want → Gave
-  gives w = record { told = Told.Want (caller_want h w); wants = Some w }
+  gives w = record { told = Ok (Told.Want (caller_want h w)); wants = Some w }
 
   abbrev motor : ℕ
   motor = h.motor_id

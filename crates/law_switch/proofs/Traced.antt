@@ -1,5 +1,5 @@
 -- A switch's turns as a list of answers to its definition: what they gave is what that wants, in the same order. Assumes nothing.
-use Rattle.std.specs.Prelude.{None, Option, Some}
+use Rattle.std.specs.Prelude.{None, Option, Some, Ok}
 use Prim.Native.Nat.{ℕ, suc, ◌+◌}
 use mathlib.Core.Path.{◌≡◌, refl, sym, ap, ◌∙◌, subst}
 use mathlib.Core.Bool.{Bool, false}
@@ -13,32 +13,31 @@ use Rattle.run_want.specs.declared.Want.TheVariants.{Clock, Send, Sleep}
 use Rattle.switch_stage.specs.Stage.{switch_want}
 use Rattle.switch_step.specs.Switch.{switch_step}
 use Rattle.switch_stage.specs.declared.Switch.{Switch}
-use Rattle.switch_stage.specs.declared.SwitchNext.{SwitchNext}
-use Rattle.switch_stage.specs.declared.SwitchNext.TheVariants.{Goes}
-use Rattle.run_step.specs.Step.{after_switch}
 use Rattle.run_machine.specs.declared.Machine.{Machine}
-use Rattle.run_machine.specs.declared.RunResult.{RunResult}
+use Rattle.run_machine.specs.Machine.{RunResult}
 use Rattle.session.specs.declared.Head.{Head}
 use Rattle.session.specs.declared.Session.{Session}
 use Rattle.session_step.specs.Parts.{caller_want, with_reading}
+use Rattle.run_want.specs.Step.{Stepped}
+use Rattle.run_want.specs.declared.step.Step.TheVariants.{Goes}
 use Rattle.law_runs.specs.Clock.{known_after, AllFine, Clock as Known, moving, Moving}
-use Rattle.law_runs.specs.Systems.{running_on, running}
+use Rattle.law_runs.specs.Systems.{phase_of, running}
 use Rattle.law_runs.specs.Trace.{Given, wants_from, after}
 use Rattle.law_runs.specs.Trace as Trace
 use Rattle.law_switch.specs.Claim.{Gave, Turn, gaves, once, count, result_in, result_of, reading_or, next_reading, AllMove}
 use Rattle.law_switch.proofs.Moving.{Behind, Pending, Goes_on, goes_on}
-use Rattle.law_switch.proofs.Ran.{machine, gave_want, gave_result, Took, onward_cases, Ran}
+use Rattle.law_switch.proofs.Ran.{machine, after_switch, gave_want, gave_result, Took, onward_cases, Ran}
 use Rattle.session_step.specs.declared.Told.TheVariants as Told
 
-pub None≢Some : {A : Type 0} {x : A} → None ≡ Some x → ⊥
-None≢Some {A} e = subst IsNone e tt
+pub none≢some : {A : Type 0} {x : A} → None ≡ Some x → ⊥
+none≢some {A} e = subst IsNone e tt
   where
     IsNone : Option A → Type 0
     IsNone None = Unit {0}
     IsNone (Some x) = ⊥
 
 -- a want is no result
-no_result : (h : Head) (w : Want) (later : Option RunResult) → result_in (Told.Want (caller_want h w)) later ≡ later
+no_result : (h : Head) (w : Want) (later : Option RunResult) → result_in (Ok (Told.Want (caller_want h w))) later ≡ later
 unfolding result_in
 no_result h w later = refl
 
@@ -73,7 +72,7 @@ module _ (h : Head) (mode : ControlMode) (timeout : Duration) where
       gs = [];
       as_many = refl;
       counts = λ f w same never. ap (λ (n : ℕ). n + 0) (same p);
-      ended = λ e. absurd (None≢Some (sym e));
+      ended = λ e. absurd (none≢some (sym e));
       moves = λ k b pending m. tt;
     }
 
@@ -81,32 +80,32 @@ module _ (h : Head) (mode : ControlMode) (timeout : Duration) where
       abbrev given : Given
       given = record { answer = t.answer; latest = k.head.feedback.latest; entry = k.entry }
 
-      abbrev stepped : SwitchNext → Option Machine
-      stepped x = running_on (after_switch mode timeout x)
+      abbrev stepped : Stepped Switch (Unit {0}) → Option Machine
+      stepped x = phase_of (after_switch h mode timeout x)
 
-      abbrev next : SwitchNext
+      abbrev next : Stepped Switch (Unit {0})
       next = switch_step mode timeout k.entry p t.answer
 
       fine_on : (k' : Known) → Behind k'.last l → Pending k' (next_reading (t ∷ ts)) → AllMove k'.last (want_of p).told (t ∷ ts) → Goes_on (switch_want mode p) t.answer k' k.head (next_reading ts)
       unfolding next_reading AllMove
       fine_on k' b pending m = goes_on h k' l k.head k.since b (next_reading ts) (switch_want mode p) t.answer k.fit k.accepted pending m.0
 
-      goes : (q : Switch) → next ≡ Goes q → t.gave ≡ want_of q → Traced q (with_reading k.head t.answer).last ts → Traced p l (t ∷ ts)
+      goes : (q : Switch) → next ≡ Ok (Goes q) → t.gave ≡ want_of q → Traced q (with_reading k.head t.answer).last ts → Traced p l (t ∷ ts)
       unfolding gaves count Trace.total wants_from after AllFine result_of AllMove
       goes q e gave rest = record {
         gs = given ∷ rest.gs;
         as_many = ap suc rest.as_many;
         counts = λ f w same never.
             (λ i. same p i + (ap (λ (g : Gave). count f (g ∷ gaves ts)) gave ∙ rest.counts f w same never) i)
-            ∙ sym (ap (λ (x : SwitchNext). w (switch_want mode p) + Trace.total w (wants_from running rest.gs (stepped x))) e);
+            ∙ sym (ap (λ (x : Stepped Switch (Unit {0})). w (switch_want mode p) + Trace.total w (wants_from running rest.gs (stepped x))) e);
         ended = λ done.
-            let r = rest.ended (sym (ap (λ (x : SwitchNext). after running rest.gs (stepped x)) e) ∙ done) in
+            let r = rest.ended (sym (ap (λ (x : Stepped Switch (Unit {0})). after running rest.gs (stepped x)) e) ∙ done) in
             (r.0, want_on t ts q gave ∙ r.1);
         moves = λ k' b pending m.
             let on = fine_on k' b pending m in
             let k'' = known_after moving (switch_want mode p) t.answer k' in (
               on.is_fine,
-              subst (λ (x : SwitchNext). Moving running rest.gs k'' (stepped x)) (sym e)
+              subst (λ (x : Stepped Switch (Unit {0})). Moving running rest.gs k'' (stepped x)) (sym e)
                   (rest.moves k'' on.behind on.pending
                   (subst (λ (o : Option Instant). AllMove o (want_of q).told ts) (sym on.read) (subst (λ (g : Gave). AllMove (reading_or t.answer k'.last) g.told ts) gave m.1))),
             );
@@ -130,4 +129,4 @@ module _ (h : Head) (mode : ControlMode) (timeout : Duration) where
   traced z (t ∷ ts) p l (k, on) =
       onward_cases h mode timeout (λ q. Ran h mode timeout z q (with_reading k.head t.answer).last ts) t ts (switch_step mode timeout k.entry p t.answer) on
       (λ q x gave ran. goes p l t ts k q x gave (traced z ts q (with_reading k.head t.answer).last ran))
-      (λ r x gave stop. ends p l t ts k r (ap running_on x) gave stop)
+      (λ r x gave stop. ends p l t ts k r x gave stop)

@@ -1,5 +1,5 @@
--- Demand 3: what holds of every mode switch in every list of calls on one session. It goes along the last paragraph of document 01's 'The runs', from the calls to the claim, and speaks of the calls and of what they returned; the run's definition is asked only for what it wants. Definitions only.
-use Rattle.std.specs.Prelude.{ℕ, ◌+◌, ◌/◌, ◌^◌, ◌≤◌, ◌≡◌, Bool, true, false, not, ◌&&◌, ◌||◌, cond, ◌↔◌, List, [], ◌∷◌, ◌++◌, eqb, length, None, Option, Some}
+-- What holds of every mode switch in every list of calls on one session. It goes from the calls to the claim, and speaks of the calls and of what they returned; the run's definition is asked only for what it wants. Definitions only.
+use Rattle.std.specs.Prelude.{ℕ, ◌+◌, ◌/◌, ◌^◌, ◌≤◌, ◌≡◌, Bool, true, false, not, ◌&&◌, ◌||◌, cond, ◌↔◌, List, [], ◌∷◌, ◌++◌, eqb, length, None, Option, Some, Result, Ok, Err}
 use Rattle.float.specs.declared.F32Bits.{F32Bits}
 use Rattle.motor_core.specs.declared.bus.CanFrame.{CanFrame}
 use Rattle.time.specs.declared.Instant.{Instant}
@@ -11,31 +11,26 @@ use Rattle.protocol_frame.specs.Layout.{d}
 use Rattle.protocol_received.specs.Received.{class_of, register_value}
 use Rattle.protocol_received.specs.declared.FrameClass.{FrameClass}
 use Rattle.protocol_received.specs.declared.FrameClass.TheVariants as Class
-use Rattle.model_list.specs.declared.Maxima.{Maxima}
+use Rattle.motor_core.specs.declared.error.Refusal.{Refusal}
+use Rattle.motor_core.specs.declared.model.Maxima.{Maxima}
 use Rattle.model_list.specs.declared.MotorModelSpec.{MotorModelSpec}
 use Rattle.state_cache.specs.declared.Entry.{Entry}
 use Rattle.state_cache.specs.declared.Entry.TheVariants.{Empty, Held}
 use Rattle.run_want.specs.declared.Answer.{Answer}
 use Rattle.run_want.specs.declared.Answer.TheVariants as Answer
-use Rattle.run_want.specs.declared.SendResult.TheVariants.{Sent}
 use Rattle.run_want.specs.declared.Want.{Want}
 use Rattle.run_want.specs.declared.Want.TheVariants.{Clock, Send, Sleep}
 use Rattle.run_want.specs.declared.message.Message.{Message}
 use Rattle.run_want.specs.declared.message.Message.TheVariants.{ReadRegister, WriteRegister, RequestFeedback, Disable, StoreParams, Setpoint}
 use Rattle.run_machine.specs.Machine.{machine_want}
-use Rattle.run_machine.specs.declared.RunResult.{RunResult}
-use Rattle.run_machine.specs.declared.RunResult.TheVariants.{Done}
+use Rattle.run_machine.specs.Machine.{RunResult}
+use Rattle.run_machine.specs.declared.Machine.{Machine}
+use Rattle.run_machine.specs.declared.Outcome.TheVariants.{Done}
 use Rattle.session.specs.Session.{patch as patch_latest}
 use Rattle.session.specs.Start.{from_limits, from_model}
 use Rattle.session.specs.declared.AfterPatch.{AfterPatch}
-use Rattle.session.specs.declared.Phase.{Phase}
-use Rattle.session.specs.declared.Phase.TheVariants.{Closed, Open}
 use Rattle.session.specs.declared.Session.{Session}
-use Rattle.session.specs.declared.start.StartOutcome.TheVariants.{Started as IsStarted}
-use Rattle.session.specs.declared.start.Started.{Started}
-use Rattle.session_frame.specs.Frame.{take_frame}
-use Rattle.session_frame.specs.declared.FrameOutcome.{FrameOutcome}
-use Rattle.session_frame.specs.declared.FrameOutcome.TheVariants as FrameOutcome
+use Rattle.session_frame.specs.Frame.{FrameOutcome, take_frame}
 use Rattle.session_frame.specs.declared.AfterFrame.{AfterFrame}
 use Rattle.session_answer.specs.Answer.{answer_run}
 use Rattle.session_step.specs.declared.Told.{Told}
@@ -48,12 +43,9 @@ use Rattle.session_begin.specs.Begin.{get_register_u32, get_register_f32, write_
 -- ---- the list: calls on one session
 
 -- a fresh session is that of an accepted start
-abbrev pub started : Session → Started
-started s = record { session = s; outcome = IsStarted }
-
 pub data Fresh (s : Session) : Type 0 where
-  of_limits : (motor_id feedback_id : ℕ) (m : Maxima) → from_limits motor_id feedback_id m ≡ started s → Fresh s
-  of_model : (motor_id feedback_id : ℕ) (models : List MotorModelSpec) (name : List ℕ) → from_model motor_id feedback_id models name ≡ started s → Fresh s
+  of_limits : (motor_id feedback_id : ℕ) (m : Maxima) → from_limits motor_id feedback_id m ≡ Ok s → Fresh s
+  of_model : (motor_id feedback_id : ℕ) (models : List MotorModelSpec) (name : List ℕ) → from_model motor_id feedback_id models name ≡ Ok s → Fresh s
 
 -- the runs that can be started
 pub data Start : Type 0 where
@@ -71,9 +63,13 @@ pub data Call : Type 0 where
   frame frame_lent : CanFrame → Instant → Call
   patch : (status mos rotor : ℕ) → Call
 
+-- what a start or an answer returns: a want or a result, or a refusal
+abbrev pub Answered : Type 0
+Answered = Result Told Refusal
+
 -- what a call returns besides the session
 pub data Returned : Type 0 where
-  told : Told → Returned
+  told : Answered → Returned
   frame : FrameOutcome → Returned
   patched : Bool → Returned
 
@@ -108,9 +104,9 @@ step s (frame_lent f reading) = of_frame (take_frame s f reading)
 step s (patch status mos rotor) = of_patch (patch_latest s status mos rotor)
 
 -- what the run's definition wants
-abbrev pub open_want : Phase → Option Want
-open_want Closed = None
-open_want (Open machine) = Some (machine_want machine)
+abbrev pub open_want : Option Machine → Option Want
+open_want None = None
+open_want (Some machine) = Some (machine_want machine)
 
 -- a call, what it returned, and what the run's definition, stepped over the same list, wants then
 pub record Event : Type 0 where
@@ -119,7 +115,7 @@ pub record Event : Type 0 where
   pub wants : Option Want
 
 abbrev pub event : Session → Call → Event
-event s c = record { call = c; returned = (step s c).returned; wants = open_want (step s c).session.run.phase }
+event s c = record { call = c; returned = (step s c).returned; wants = open_want (step s c).session.run }
 
 -- each call gets the session that the one before it left
 unfoldable pub events : Session → List Call → List Event
@@ -148,8 +144,8 @@ replied e reading (Some value) = Held value reading
 -- a frame that was refused brings nothing
 unfoldable pub taken_in : Entry → CanFrame → Instant → Returned → Entry
 taken_in e f reading (told t) = e
-taken_in e f reading (Returned.frame FrameOutcome.Taken) = replied e reading (mode_reply f)
-taken_in e f reading (Returned.frame (FrameOutcome.Refused number)) = e
+taken_in e f reading (Returned.frame (Ok taken)) = replied e reading (mode_reply f)
+taken_in e f reading (Returned.frame (Err refusal)) = e
 taken_in e f reading (patched done) = e
 
 -- after one more call, and after more of them
@@ -168,7 +164,7 @@ last_reply e (v ∷ vs) = last_reply (reply_with e v.call v.returned) vs
 
 -- what such a call gives: what it returned, and what the run's definition wants then
 pub record Gave : Type 0 where
-  pub told : Told
+  pub told : Answered
   pub wants : Option Want
 
 -- an accepted answer, and the last reply of register 10 taken before its call
@@ -177,14 +173,14 @@ pub record Turn : Type 0 where
   pub sees : Entry
   pub gave : Gave
 
-abbrev pub turn : Answer → Entry → Option Want → Told → Turn
+abbrev pub turn : Answer → Entry → Option Want → Answered → Turn
 turn a e w t = record { answer = a; sees = e; gave = record { told = t; wants = w } }
 
 -- a refused answer is no turn, and the result is the last
-unfoldable pub turn_in : Answer → Entry → Option Want → Told → List Turn → List Turn
-turn_in a e w (Told.Want want) ts = turn a e w (Told.Want want) ∷ ts
-turn_in a e w (Told.Result r) ts = turn a e w (Told.Result r) ∷ []
-turn_in a e w (Told.Refused number) ts = ts
+unfoldable pub turn_in : Answer → Entry → Option Want → Answered → List Turn → List Turn
+turn_in a e w (Ok (Told.Want want)) ts = turn a e w (Ok (Told.Want want)) ∷ ts
+turn_in a e w (Ok (Told.Result r)) ts = turn a e w (Ok (Told.Result r)) ∷ []
+turn_in a e w (Err refusal) ts = ts
 
 unfoldable pub turn_of : Answer → Entry → Option Want → Returned → List Turn → List Turn
 turn_of a e w (told t) ts = turn_in a e w t ts
@@ -204,15 +200,15 @@ turns e [] = []
 turns e (v ∷ vs) = add_turn e v.call v.returned v.wants (turns (reply_with e v.call v.returned) vs)
 
 -- none where the start gave the result
-unfoldable pub turns_after : Told → Entry → List Event → List Turn
-turns_after (Told.Want want) e vs = turns e vs
-turns_after (Told.Result r) e vs = []
-turns_after (Told.Refused number) e vs = turns e vs
+unfoldable pub turns_after : Answered → Entry → List Event → List Turn
+turns_after (Ok (Told.Want want)) e vs = turns e vs
+turns_after (Ok (Told.Result r)) e vs = []
+turns_after (Err refusal) e vs = turns e vs
 
-unfoldable pub result_in : Told → Option RunResult → Option RunResult
-result_in (Told.Want want) later = later
-result_in (Told.Result r) later = Some r
-result_in (Told.Refused number) later = later
+unfoldable pub result_in : Answered → Option RunResult → Option RunResult
+result_in (Ok (Told.Want want)) later = later
+result_in (Ok (Told.Result r)) later = Some r
+result_in (Err refusal) later = later
 
 unfoldable pub result_of : List Turn → Option RunResult
 result_of [] = None
@@ -236,29 +232,29 @@ count f [] = 0
 count f (g ∷ gs) = once (f g) + count f gs
 
 -- by what was returned: a want that passes a test
-unfoldable pub a_want : (Wanted → Bool) → Told → Bool
-a_want test (Told.Want want) = test want
-a_want test (Told.Result r) = false
-a_want test (Told.Refused number) = false
+unfoldable pub a_want : (Wanted → Bool) → Answered → Bool
+a_want test (Ok (Told.Want want)) = test want
+a_want test (Ok (Told.Result r)) = false
+a_want test (Err refusal) = false
 
 -- a send, and one on 0x7FF of such data bytes; a sleep
 unfoldable pub send_to : (ℕ → ℕ → Bool) → Wanted → Bool
 send_to test Wanted.Clock = false
-send_to test (Wanted.Send id bytes) = test id bytes
+send_to test (Wanted.Send command) = test command.arbitration_id command.«data»
 send_to test (Wanted.Sleep length) = false
 
 unfoldable pub is_sleep : Wanted → Bool
 is_sleep Wanted.Clock = false
-is_sleep (Wanted.Send id bytes) = false
+is_sleep (Wanted.Send command) = false
 is_sleep (Wanted.Sleep length) = true
 
-abbrev pub a_send : Told → Bool
+abbrev pub a_send : Answered → Bool
 a_send = a_want (send_to (λ id bytes. true))
 
-abbrev pub on_7ff : (ℕ → Bool) → Told → Bool
+abbrev pub on_7ff : (ℕ → Bool) → Answered → Bool
 on_7ff of = a_want (send_to (λ id bytes. eqb id request_id && of bytes))
 
-abbrev pub a_sleep : Told → Bool
+abbrev pub a_sleep : Answered → Bool
 a_sleep = a_want is_sleep
 
 -- the bytes of a read of register 10; of a write of it, whatever the value: the first four
@@ -324,11 +320,11 @@ next_reading [] = None
 next_reading (t ∷ ts) = reading_or t.answer (next_reading ts)
 
 -- a sleep does, unless the next reading is less than its length above the last one before it
-abbrev pub Moves : Option Instant → Told → Option Instant → Type 0
-Moves last w next = (r t : Instant) (d : Duration) → last ≡ Some r → w ≡ Told.Want (Wanted.Sleep d) → next ≡ Some t → r.0 + d.0 ≤ t.0
+abbrev pub Moves : Option Instant → Answered → Option Instant → Type 0
+Moves last w next = (r t : Instant) (d : Duration) → last ≡ Some r → w ≡ Ok (Told.Want (Wanted.Sleep d)) → next ≡ Some t → r.0 + d.0 ≤ t.0
 
 -- all do, from the want `w` on; `last` is the last reading so far
-unfoldable pub AllMove : Option Instant → Told → List Turn → Type 0
+unfoldable pub AllMove : Option Instant → Answered → List Turn → Type 0
 AllMove last w [] = Moves last w None
 AllMove last w (t ∷ ts) = Moves last w (next_reading (t ∷ ts)) × AllMove (reading_or t.answer last) t.gave.told ts
 
@@ -345,8 +341,8 @@ reading_after last (t ∷ ts) = reading_after (reading_or t.answer last) ts
 
 -- A read looks in the call that accepts its sent, and in each that accepts a slept of its wait, which lasts while no other send is wanted. `us` are the turns since its send was wanted, `a` the next answer.
 unfoldable pub Looks : List Turn → Answer → Type 0
-Looks [] a = a ≡ Answer.Send Sent
-Looks (u ∷ us) a = (u.answer ≡ Answer.Send Sent) × (count (λ g. a_send g.told) (gaves (u ∷ us)) ≡ 0) × (a ≡ Answer.Slept)
+Looks [] a = a ≡ Answer.Send (Ok tt)
+Looks (u ∷ us) a = (u.answer ≡ Answer.Send (Ok tt)) × (count (λ g. a_send g.told) (gaves (u ∷ us)) ≡ 0) × (a ≡ Answer.Slept)
 
 -- The last read of register 10 is wanted after the turns `before` and opens with the last reading accepted by then; its look in the turn `look` finds a reply that holds the mode, stamped no earlier. `so_far` is the last reading accepted before all these turns.
 pub record Found (motor mode : ℕ) (so_far : Option Instant) (first : Gave) (ts : List Turn) : Type 0 where
@@ -366,18 +362,18 @@ pub record Found (motor mode : ℕ) (so_far : Option Instant) (first : Gave) (ts
 
 -- ---- the claim
 
-unfoldable pub Accepted : Told → Type 0
-Accepted (Told.Want want) = Unit {0}
-Accepted (Told.Result r) = Unit {0}
-Accepted (Told.Refused number) = ⊥
+unfoldable pub Accepted : Answered → Type 0
+Accepted (Ok (Told.Want want)) = Unit {0}
+Accepted (Ok (Told.Result r)) = Unit {0}
+Accepted (Err refusal) = ⊥
 
-unfoldable pub Refusal : Returned → Type 0
-Refusal (told (Told.Want want)) = ⊥
-Refusal (told (Told.Result r)) = ⊥
-Refusal (told (Told.Refused number)) = Unit {0}
-Refusal (Returned.frame FrameOutcome.Taken) = ⊥
-Refusal (Returned.frame (FrameOutcome.Refused number)) = Unit {0}
-Refusal (patched done) = ⊥
+unfoldable pub IsRefusal : Returned → Type 0
+IsRefusal (told (Ok (Told.Want want))) = ⊥
+IsRefusal (told (Ok (Told.Result r))) = ⊥
+IsRefusal (told (Err refusal)) = Unit {0}
+IsRefusal (Returned.frame (Ok taken)) = ⊥
+IsRefusal (Returned.frame (Err refusal)) = Unit {0}
+IsRefusal (patched done) = ⊥
 
 -- Of one switch: what its calls gave, from its start on; its turns after that; and the session at the end of the list.
 pub record Bounded (motor mode : ℕ) (first : Gave) (ts : List Turn) (end : Session) : Type 0 where
@@ -394,20 +390,20 @@ pub record Bounded (motor mode : ℕ) (first : Gave) (ts : List Turn) (end : Ses
   pub sleeps : AllMove None first.told ts → count (λ g. a_sleep g.told) (first ∷ gaves ts) ≤ 449
   pub ends : AllMove None first.told ts → 947 ≤ length ts → (r : RunResult) × (result first ts ≡ Some r)
   -- while it has none, some answer is accepted; with it the run is closed
-  pub answerable : result first ts ≡ None → (a : Answer) × (w : Told) × ((step end (answer a)).returned ≡ told w) × Accepted w
+  pub answerable : result first ts ≡ None → (a : Answer) × (w : Answered) × ((step end (answer a)).returned ≡ told w) × Accepted w
   pub closes : (r : RunResult) → result first ts ≡ Some r → (gave_after first ts).wants ≡ None
   -- done exactly if the last read of register 10 found the mode
-  pub success : (r : RunResult) → result first ts ≡ Some r → (r ≡ Done) ↔ Found motor mode None first ts
+  pub success : (r : RunResult) → result first ts ≡ Some r → (r ≡ Ok Done) ↔ Found motor mode None first ts
 
 pub record Claim : Type 0 where
   -- a refused call leaves the session that it got
-  pub refusals : (s : Session) (c : Call) → Refusal (step s c).returned → (step s c).session ≡ s
+  pub refusals : (s : Session) (c : Call) → IsRefusal (step s c).returned → (step s c).session ≡ s
   -- of each switch, by its accepted start, in each list of calls from a fresh session
   pub switches : (s₀ : Session) → Fresh s₀ → (before : List Call) (mode : ℕ) (timeout : Duration) (after : List Call) →
       (let s = session_after s₀ before in
       let began = event s (start (switch mode timeout)) in
       let s' = (step s (start (switch mode timeout))).session in
-      (w : Told) → began.returned ≡ told w → Accepted w →
+      (w : Answered) → began.returned ≡ told w → Accepted w →
       Bounded s₀.head.motor_id mode (record { told = w; wants = began.wants })
       (turns_after w (last_reply Empty (events s₀ before)) (events s' after))
       (session_after s' after))

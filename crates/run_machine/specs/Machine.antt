@@ -1,6 +1,8 @@
 -- Each run's machine: what it wants and where it looks. Definitions only.
+use Rattle.std.specs.Prelude.{Result}
 use Rattle.state_cache.specs.declared.Place.{Place}
 use Rattle.state_cache.specs.declared.Place.TheVariants.{Nowhere, Reply, Ack}
+use Rattle.run_want.specs.declared.Failure.{Failure}
 use Rattle.run_want.specs.declared.Want.{Want}
 use Rattle.run_read.specs.Read.{read_want}
 use Rattle.run_write.specs.Write.{write_want}
@@ -8,6 +10,7 @@ use Rattle.run_fresh.specs.State.{state_want}
 use Rattle.run_fresh.specs.Store.{store_want}
 use Rattle.switch_stage.specs.Stage.{switch_want, switch_place}
 use Rattle.run_machine.specs.declared.Machine.{Machine}
+use Rattle.run_machine.specs.declared.Outcome.{Outcome}
 use Rattle.run_machine.specs.declared.Machine.TheVariants.{GetRegister, WriteRegister, RequestFreshState, StoreParameters, EnsureControlMode}
 
 abbrev pub machine_want : Machine → Want
@@ -24,3 +27,7 @@ machine_place (WriteRegister rid value write) = Ack rid
 machine_place (RequestFreshState timeout ask) = Nowhere
 machine_place (StoreParameters _) = Nowhere
 machine_place (EnsureControlMode mode timeout switch) = switch_place switch
+
+-- what a run ends with
+abbrev pub RunResult : Type 0
+RunResult = Result Outcome Failure
