@@ -1,5 +1,5 @@
 -- Cases beside the marked ones, in which no two fields are alike: what they pin down is a slip that the marked ones would not show. `proofs/Beside.antt` has their proof.
-use Rattle.std.specs.Prelude.{ℕ, ◌+◌, ◌^◌, ◌≡◌, Bool, true, false, List}
+use Rattle.std.specs.Prelude.{ℕ, ◌+◌, ◌^◌, ◌≡◌, Bool, true, false, List, Some, Result, Ok, Err}
 use Rattle.std.specs.Float.Ieee.{neg}
 use Rattle.motor_core.specs.declared.bus.CanFrame.{CanFrame}
 use Rattle.time.specs.declared.Instant.{Instant}
@@ -7,18 +7,16 @@ use Rattle.float.specs.Arithmetic.{float}
 use Rattle.protocol_address.specs.Address.{accepted}
 use Rattle.protocol_status.specs.declared.StatusName.TheVariants.{UnderVoltage}
 use Rattle.state_feedback.specs.declared.FeedbackSnapshot.{FeedbackSnapshot}
-use Rattle.state_feedback.specs.declared.Latest.TheVariants.{Snapshot}
 use Rattle.state_cache.specs.Cache.{cached_entry}
 use Rattle.session.specs.Session.{patch}
 use Rattle.session.specs.declared.Session.{Session}
-use Rattle.state_cache.specs.declared.Cached.TheVariants as Cached
 use Rattle.state_cache.specs.declared.Entry.TheVariants.{Empty}
 use Rattle.session_frame.specs.Frame.{frame_outcome, take_frame}
-use Rattle.session_frame.specs.declared.FrameOutcome.TheVariants.{Refused}
 use Rattle.law_cases.specs.Marked.{p, v, t, frame, on_bus, session, at_minimum}
 use Rattle.motor_core.specs.Model.{limits_of}
-use Rattle.motor_core.specs.declared.model.LimitCheck.TheVariants as LimitCheck
-use Rattle.session.specs.Start.{no_limits}
+use Rattle.motor_core.specs.Error.{number}
+use Rattle.motor_core.specs.declared.error.Refusal.{Refusal}
+use Rattle.motor_core.specs.declared.model.Maxima.{Maxima}
 
 -- motor 13, status 9
 abbrev pub two_halves : List ℕ
@@ -38,20 +36,28 @@ second_record = record {
 abbrev pub fed_twice : Session
 fed_twice = (take_frame (take_frame session (on_bus at_minimum) (at 5)).session (on_bus two_halves) (at 7)).session
 
+-- refused with this number
+abbrev pub IsRefusedWith : {A : Type 0} → ℕ → Result A Refusal → Type 0
+IsRefusedWith n (Ok x) = ⊥
+IsRefusedWith n (Err refusal) = number refusal ≡ n
+
+abbrev pub no_limits : Maxima
+no_limits = record { p_max = float 0; v_max = float 0; t_max = float 0 }
+
 -- motor 17's frame, whose low four bits are motor 1's, under some id
 abbrev pub stranger : ℕ → ℕ → Bool → CanFrame
 stranger id length extended = record { arbitration_id = id; «data» = at_minimum; dlc = length; is_extended = extended }
 
 pub record Beside : Type 0 where
-  pub second_stored : fed_twice.head.feedback ≡ record { latest = Snapshot second_record; sequence = 2 }
-  pub reading_back : frame_outcome fed_twice.head (on_bus at_minimum) (at 6) ≡ Refused 3
-  pub reading_beyond : frame_outcome fed_twice.head (on_bus at_minimum) (at (2 ^ 62 + 1)) ≡ Refused 3
-  -- what stands beside a refused start has limits that no start accepts
-  pub placeholder_limits : limits_of no_limits.p_max no_limits.v_max no_limits.t_max ≡ LimitCheck.Refused 1
+  pub second_stored : fed_twice.head.feedback ≡ record { latest = Some second_record; sequence = 2 }
+  pub reading_back : IsRefusedWith 3 (frame_outcome fed_twice.head (on_bus at_minimum) (at 6))
+  pub reading_beyond : IsRefusedWith 3 (frame_outcome fed_twice.head (on_bus at_minimum) (at (2 ^ 62 + 1)))
+  -- limits of 0, which no start accepts
+  pub placeholder_limits : IsRefusedWith 1 (limits_of no_limits)
   pub patch_with_none : (patch session 1 2 3).patched ≡ false
   pub patch_with_one : (patch fed_twice 1 2 3).patched ≡ true
-  pub cached_none : cached_entry session.replies 10 ≡ Cached.Entry Empty
-  pub cached_unknown : cached_entry session.replies 37 ≡ Cached.Refused 4
+  pub cached_none : cached_entry session.replies 10 ≡ Ok Empty
+  pub cached_unknown : IsRefusedWith 4 (cached_entry session.replies 37)
   pub stranger_taken_for_motor : accepted 1 0x12 (stranger 0x21 8 false) ≡ true
   pub stranger_without_data : accepted 1 0x12 (stranger 0x21 0 false) ≡ false
   pub stranger_extended : accepted 1 0x12 (stranger 0x12 8 true) ≡ false

@@ -1,13 +1,13 @@
--- Document 01's bench cases that are marked to be proved, as equations of the definitions: model 4310, motor 1. `proofs/Marked.antt` has their proof.
-use Rattle.std.specs.Prelude.{ℕ, ◌≤◌, ◌^◌, ◌≡◌, false, List, [], ◌∷◌, Float}
+-- The bench cases that are to be proved, as equations of the definitions: model 4310, motor 1. `proofs/Marked.antt` has their proof.
+use Rattle.std.specs.Prelude.{ℕ, ◌≤◌, ◌^◌, ◌≡◌, false, List, [], ◌∷◌, Float, Some, Ok}
 use Rattle.std.specs.Float.{nan, binary32}
 use Rattle.std.specs.Float.Ieee.{neg, div}
 use Rattle.motor_core.specs.Model.{from_maxima}
+use Rattle.motor_core.specs.declared.model.Maxima.{Maxima}
 use Rattle.motor_core.specs.Name.{name_of}
 use Rattle.time.specs.Time.{millis}
 use Rattle.motor_core.specs.declared.bus.CanFrame.{CanFrame}
 use Rattle.time.specs.declared.Instant.{Instant}
-use Rattle.model_query.specs.Query.{listed}
 use Rattle.model_match.specs.Matching.{match_models}
 use Rattle.model_damiao.specs.Damiao.{damiao_models, list_of}
 use Rattle.model_query.specs.declared.Query.{Query}
@@ -18,24 +18,22 @@ use Rattle.protocol_request.specs.Request.{register_read_cmd}
 use Rattle.protocol_feedback.specs.Feedback.{decoded}
 use Rattle.protocol_received.specs.Received.{class_of, received}
 use Rattle.protocol_status.specs.Status.{status_name}
-use Rattle.protocol_frame.specs.declared.Command.TheVariants.{Frame}
+use Rattle.protocol_frame.specs.Command.{command}
+use Rattle.protocol_setpoint.specs.declared.MitSetpoint.{MitSetpoint}
 use Rattle.protocol_received.specs.declared.FrameClass.TheVariants as Class
-use Rattle.protocol_feedback.specs.declared.Decoded.TheVariants as Decode
 use Rattle.protocol_received.specs.declared.Received.TheVariants as Receive
 use Rattle.protocol_feedback.specs.declared.SensorFeedback.{SensorFeedback}
 use Rattle.protocol_status.specs.declared.StatusName.TheVariants.{Enabled}
 use Rattle.state_feedback.specs.declared.FeedbackSnapshot.{FeedbackSnapshot}
-use Rattle.state_feedback.specs.declared.Latest.TheVariants.{Snapshot}
-use Rattle.state_cache.specs.Cache.{held, slot_of}
+use Rattle.state_cache.specs.Cache.{slot_of}
+use Rattle.state_cache.specs.declared.Entry.TheVariants.{Held}
 use Rattle.switch_time.specs.TimeLeft.{mode_read_cap}
 use Rattle.session.specs.Session.{fresh}
 use Rattle.session.specs.declared.Session.{Session}
 use Rattle.session_frame.specs.Frame.{take_frame}
 use Rattle.text.specs.Ascii.{ascii}
 use Rattle.model_list.specs.Models.{limits_by_name}
-use Rattle.model_list.specs.declared.ModelLimits.TheVariants.{Limits}
 use Rattle.session.specs.Start.{from_model}
-use Rattle.session.specs.declared.start.StartOutcome.TheVariants.{Started}
 
 -- model 4310's limits: 12.5, 30, 10, as the list has them under that name (`model_4310` below)
 abbrev pub p : Float
@@ -47,8 +45,14 @@ v = float 30
 abbrev pub t : Float
 t = float 10
 
+abbrev pub maxima : Maxima
+maxima = record { p_max = p; v_max = v; t_max = t }
+
 abbrev pub zero : Float
 zero = float 0
+
+abbrev pub setpoint : Float → Float → Float → Float → Float → MitSetpoint
+setpoint pos vel kp kd torq = record { target_position = pos; target_velocity = vel; stiffness = kp; damping = kd; feedforward_torque = torq }
 
 abbrev pub frame : ℕ → ℕ → ℕ → ℕ → ℕ → ℕ → ℕ → ℕ → List ℕ
 frame a b c d e f g h = a ∷ b ∷ c ∷ d ∷ e ∷ f ∷ g ∷ h ∷ []
@@ -69,7 +73,7 @@ abbrev pub on_bus : List ℕ → CanFrame
 on_bus bytes = record { arbitration_id = 0x11; «data» = bytes; dlc = 8; is_extended = false }
 
 abbrev pub session : Session
-session = fresh 1 0x11 (from_maxima p v t)
+session = fresh 1 0x11 (from_maxima maxima)
 
 -- the record that the frame at its minimum leaves there
 abbrev pub first_record : Instant → FeedbackSnapshot
@@ -84,21 +88,21 @@ abbrev pub query : Query
 query = record { p = p; v = float 45; t = t }
 
 pub record Marked : Type 0 where
-  pub model_4310 : limits_by_name damiao_models (ascii "4310") ≡ Limits (record { p_max = p; v_max = v; t_max = t })
-  pub started_by_name : from_model 1 0x11 damiao_models (ascii "4310") ≡ record { session = session; outcome = Started }
-  pub mit_all_zero : mit_cmd 1 p v t zero zero zero zero zero ≡ Frame 1 0x7FFF_7FF0_0000_07FF
-  pub mit_all_at_maximum : mit_cmd 1 p v t p v (float 500) (float 5) t ≡ Frame 1 0xFFFF_FFFF_FFFF_FFFF
-  pub feedback_decoded : decoded p v t at_minimum ≡ Decode.Feedback minimum
-  pub feedback_sorted : received (from_maxima p v t) at_minimum ≡ Receive.Feedback minimum
+  pub model_4310 : limits_by_name damiao_models (ascii "4310") ≡ Ok maxima
+  pub started_by_name : from_model 1 0x11 damiao_models (ascii "4310") ≡ Ok session
+  pub mit_all_zero : mit_cmd 1 maxima (setpoint zero zero zero zero zero) ≡ Ok (command 1 0x7FFF_7FF0_0000_07FF)
+  pub mit_all_at_maximum : mit_cmd 1 maxima (setpoint p v (float 500) (float 5) t) ≡ Ok (command 1 0xFFFF_FFFF_FFFF_FFFF)
+  pub feedback_decoded : decoded maxima at_minimum ≡ Ok minimum
+  pub feedback_sorted : received (from_maxima maxima) at_minimum ≡ Receive.Feedback minimum
   pub feedback_status : status_name minimum.status_code ≡ Enabled
-  pub feedback_stored : (reading : Instant) → reading.0 ≤ 2 ^ 62 → (take_frame session (on_bus at_minimum) reading).session.head.feedback ≡ record { latest = Snapshot (first_record reading); sequence = 1 }
-  pub register_ten : received (from_maxima p v t) ten_is_one ≡ Receive.Reply 10 (UInt32 1)
-  pub register_ten_stored : (reading : Instant) → reading.0 ≤ 2 ^ 62 → slot_of (take_frame session (on_bus ten_is_one) reading).session.replies 10 ≡ held (UInt32 1) reading
+  pub feedback_stored : (reading : Instant) → reading.0 ≤ 2 ^ 62 → (take_frame session (on_bus at_minimum) reading).session.head.feedback ≡ record { latest = Some (first_record reading); sequence = 1 }
+  pub register_ten : received (from_maxima maxima) ten_is_one ≡ Receive.Reply 10 (UInt32 1)
+  pub register_ten_stored : (reading : Instant) → reading.0 ≤ 2 ^ 62 → slot_of (take_frame session (on_bus ten_is_one) reading).session.replies 10 ≡ Held (UInt32 1) reading
   pub d1_too_high : class_of (frame 0x11 0x10 0x33 0x0A 0x01 0x00 0x00 0x00) ≡ Class.Feedback
   pub d3_unknown : class_of (frame 0x11 0x0F 0x33 0x25 0x01 0x00 0x00 0x00) ≡ Class.Feedback
-  pub read_ten : register_read_cmd 1 10 ≡ Frame 0x7FF 0x0100_330A_0000_0000
-  pub force_position : force_pos_cmd 1 0 (float 100) (float 1) ≡ Frame 0x301 0x0000_0000_1027_1027
+  pub read_ten : register_read_cmd 1 10 ≡ Ok (command 0x7FF 0x0100_330A_0000_0000)
+  pub force_position : force_pos_cmd 1 0 (float 100) (float 1) ≡ Ok (command 0x301 0x0000_0000_1027_1027)
   pub mode_cap_of_400 : mode_read_cap (millis 400) ≡ millis 100
   pub mode_cap_of_0 : mode_read_cap (millis 0) ≡ millis 2
-  pub match_exact : match_models (list_of damiao_models) query zero ≡ listed (name_of "G6215" ∷ name_of "H6220" ∷ [])
-  pub match_nan : match_models (list_of damiao_models) query nan ≡ listed []
+  pub match_exact : match_models (list_of damiao_models) query zero ≡ Ok (name_of "G6215" ∷ name_of "H6220" ∷ [])
+  pub match_nan : match_models (list_of damiao_models) query nan ≡ Ok []
