@@ -1,5 +1,5 @@
 -- Laws of `specs/Line.antt`, by the tests of the code. Assumes nothing.
-use Rattle.std.proofs.Common.{◌≡◌, ℕ, suc, ◌+◌, ◌<◌, ◌≤◌, List, [], ◌∷◌, length, drop, refl, sym, ap, ◌∙◌, Option, Some, None, Bor, find, arith, set, subst, add-one, drop-drop, take, cond, Bool, true, false, ◌&&◌, ◌||◌, eqb, Result, Ok, Err}
+use Rattle.std.proofs.Common.{◌≡◌, ℕ, suc, ◌+◌, ◌<◌, ◌≤◌, List, [], ◌∷◌, length, drop, refl, sym, ap, ◌∙◌, Option, Some, None, Bor, find, arith, set, subst, add-one, drop-drop, take, cond, Bool, true, false, ◌||◌, Result, Ok, Err}
 use Rattle.std.specs.List.{enumerate_from, slice_get}
 use Rattle.std.specs.Option.{option_map, unwrap_or}
 use Rattle.std.proofs.lemmas.Iterator.{YieldsList}

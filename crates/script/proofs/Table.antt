@@ -1,9 +1,9 @@
 -- Laws of the table of the calls. Assumes nothing.
-use Rattle.std.proofs.Common.{◌≡◌, ℕ, Bool, true, false, cond, eqb, List, [], ◌∷◌, refl, ap, ◌∙◌, Option, Some, None, map, find}
+use Rattle.std.proofs.Common.{◌≡◌, ℕ, Bool, true, false, cond, eqb, List, [], ◌∷◌, refl, ap, ◌∙◌, Some, map, find}
 use Rattle.std.specs.Str.{bytes_eq}
 use Rattle.std.specs.Option.{option_map}
 use Rattle.text.specs.Text.{same}
-use Rattle.script.specs.Line.{Form, form_of}
+use Rattle.script.specs.Line.{form_of}
 use Rattle.script.specs.declared.calls.Row.{Row}
 
 same_bytes : (a b : List ℕ) → bytes_eq a b ≡ same a b

@@ -48,14 +48,14 @@ pub enum CallName {
 
 // A call's word, its name, and the kinds of its arguments.
 #[derive(Clone, Copy)]
-pub struct Row(
-    pub &'static [u8],
-    pub CallName,
-    pub &'static [Kind],
-);
+pub struct Row(pub &'static [u8], pub CallName, pub &'static [Kind]);
 
 const CALLS: [Row; 36] = [
-    Row(b"start-limits", CallName::StartLimits, &[U16, U16, U32, U32, U32]),
+    Row(
+        b"start-limits",
+        CallName::StartLimits,
+        &[U16, U16, U32, U32, U32],
+    ),
     Row(b"start-model", CallName::StartModel, &[Name, U16, U16]),
     Row(b"get-u32", CallName::GetU32, &[U8, U64]),
     Row(b"get-f32", CallName::GetF32, &[U8, U64]),
@@ -70,11 +70,19 @@ const CALLS: [Row; 36] = [
     Row(b"send-failed", CallName::SendFailed, &[]),
     Row(b"slept", CallName::Slept, &[]),
     Row(b"frame", CallName::Frame, &[U64, U32, U64, U8, Flag]),
-    Row(b"frame-lent", CallName::FrameLent, &[U64, U32, U64, U8, Flag]),
+    Row(
+        b"frame-lent",
+        CallName::FrameLent,
+        &[U64, U32, U64, U8, Flag],
+    ),
     Row(b"accepts", CallName::Accepts, &[U32, U64, U8, Flag]),
     Row(b"patch", CallName::Patch, &[U8, U8, U8]),
     Row(b"session", CallName::Session, &[]),
-    Row(b"mit", CallName::Mit, &[U16, U32, U32, U32, U32, U32, U32, U32, U32]),
+    Row(
+        b"mit",
+        CallName::Mit,
+        &[U16, U32, U32, U32, U32, U32, U32, U32, U32],
+    ),
     Row(b"pos-vel", CallName::PosVel, &[U16, U32, U32]),
     Row(b"vel", CallName::Vel, &[U16, U32]),
     Row(b"force-pos", CallName::ForcePos, &[U16, U32, U32, U32]),

@@ -4,10 +4,9 @@
 mod calls;
 mod lines;
 
-use script_words::Kind;
-
 pub use calls::CallName;
 pub use lines::parse;
+use script_words::Kind;
 
 // The bytes that a line may have.
 pub const MAX_LINE: usize = 4095;

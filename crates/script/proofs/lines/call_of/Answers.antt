@@ -19,7 +19,7 @@ unfolding call_from
 returns-in_default c =
     let words = split c.args.line.now in
     let first = first_word words c.split.result c.next.new.self c.next.result c.unwrap_or_default-word.result.now (or_empty c.next.result _ c.unwrap_or_default-word.ensures) c.next.ensures.steps
-        (YieldsList-from_slice_split _ (λ b. eqb b 32) c.args.line.now c.split.ensures.rest c.split.ensures.done c.split.ensures.closure (λ x b q k. search (rules, tests))) in
+    (YieldsList-from_slice_split _ (λ b. eqb b 32) c.args.line.now c.split.ensures.rest c.split.ensures.done c.split.ensures.closure (λ x b q k. search (rules, tests))) in
     sym (named words c.unwrap_or_default-word.result.now c.row_of.result (omega (arith, length-slice_split (λ b. eqb b 32) c.args.line.now)) first c.row_of.ensures
     ∙ ap (λ (o : Option Row). call_from (option_map form_of o) (drop 1 words)) c.in_default.is)
 
@@ -28,7 +28,7 @@ unfolding call_from
 loop-place-init c =
     let words = split c.args.line.now in
     let first = first_word words c.split.result c.next.new.self c.next.result c.unwrap_or_default-word.result.now (or_empty c.next.result _ c.unwrap_or_default-word.ensures) c.next.ensures.steps
-        (YieldsList-from_slice_split _ (λ b. eqb b 32) c.args.line.now c.split.ensures.rest c.split.ensures.done c.split.ensures.closure (λ x b q k. search (rules, tests))) in
+    (YieldsList-from_slice_split _ (λ b. eqb b 32) c.args.line.now c.split.ensures.rest c.split.ensures.done c.split.ensures.closure (λ x b q k. search (rules, tests))) in
     let found = named words c.unwrap_or_default-word.result.now c.row_of.result (omega (arith, length-slice_split (λ b. eqb b 32) c.args.line.now)) first c.row_of.ensures in
     record {
       words = YieldsList-from_enumerate (YieldsList-from_skip 1 (YieldsList-from_slice_split _ (λ b. eqb b 32) c.args.line.now (cc) (cc) c.split-2.ensures.closure (λ x b q k. search (rules, tests))) (cc)) (cc);
