@@ -1,129 +1,137 @@
 -- Laws of `specs/Line.antt`, by the tests of the code. Assumes nothing.
-use Prim.Native.Nat.{ℕ, ◌+◌, ◌-◌, ◌≤◌, ◌<◌, zero-le}
-use mathlib.Core.Path.{◌≡◌, refl, ap, ◌∙◌}
-use mathlib.Core.Bool.{Bool, true, false, cond, ◌||◌}
-use mathlib.Core.List.{List, [], ◌∷◌}
-use native.Mathlib.Nat.{sub-zero, le_of_eq, not-suc-le-zero}
-use native.Mathlib.Numerals.{add-one}
-use native.Mathlib.Omega.{arith}
-use lib.ListN.{length, get_or, take, drop, set, replicate, drop_of_length-le}
-use lib.Seq.{drop-cons}
-use lib.Dec.{leb, eqb}
-use borrow.Author.Tests.{lt-ltb, le-ltb, eq-eqb, ne_eqb}
-use Rattle.script_words.specs.Number.{field_of}
-use Rattle.script_words.specs.Word.{index_of, split, words_from}
+use Rattle.std.proofs.Common.{◌≡◌, ℕ, suc, ◌+◌, ◌<◌, ◌≤◌, List, [], ◌∷◌, length, drop, refl, sym, ap, ◌∙◌, Option, Some, None, Bor, find, arith, set, subst, add-one, drop-drop, take, cond, Bool, true, false, ◌||◌, Result, Ok, Err}
+use Rattle.std.specs.List.{enumerate_from, slice_get}
+use Rattle.std.specs.Option.{option_map, unwrap_or}
+use Rattle.std.proofs.lemmas.Iterator.{YieldsList}
+use Rattle.std.proofs.lemmas.Bool.Decides.{nat_tests}
+use Rattle.std.specs.Str.{bytes_eq}
+use borrow.Author.Tests.{lt-ltb, le-ltb}
 use Rattle.text.specs.Text.{same}
-use Rattle.script.specs.Line.{long_line, control_byte, unknown_word, too_few, too_many, wrong_argument, no_call, calls, with_value, fields_of, call_from, call_of, has, passed_over, parsed}
-use Rattle.script_words.specs.declared.Read.{Read}
-use Rattle.script_words.specs.declared.Read.TheVariants.{Value, Bad}
+use Rattle.script_words.specs.Number.{field_of}
+use Rattle.script_words.specs.Word.{split}
+use Rattle.script_words.specs.declared.Kind.{Kind}
+use Rattle.script.specs.Line.{Form, form_of, calls, with_value, fields_of, call_from, call_of, has, passed_over, some_call, parsed}
 use Rattle.script.specs.declared.Call.{Call}
-use Rattle.script_words.proofs.Words.{words_none, words_first, from_start}
+use Rattle.script.specs.declared.Fault.{Fault}
+use Rattle.script.specs.declared.Fault.TheVariants.{LongLine, ControlByte, TooFew, TooMany, WrongArgument}
+use Rattle.script.specs.declared.calls.Row.{Row}
+use Rattle.script.specs.declared.calls.CallName.{CallName}
 
--- ---- the arguments from place i on, with the words from `from` on
-module _ (kinds line : List ℕ) (code from i : ℕ) (args : List ℕ) where
-  abbrev left : Call
-  left = fields_of (drop i kinds) (words_from line from) code i args
+-- ---- the words that are left, each with its place
+module _ {S : Type 0} (steps : S → Option (ℕ × Bor (List ℕ)) → S → Type 0) where
+  abbrev pub Gives : S → ℕ → List (List ℕ) → Type 0
+  Gives s n words = YieldsList {B = ℕ × List ℕ} steps (λ p. (p.0, p.1.now)) s (enumerate_from n words)
 
-  pub missing : i < length kinds → length line < from → left ≡ too_few code
+  pub turn : (n : ℕ) (words : List (List ℕ)) (s t : S) (x : ℕ × Bor (List ℕ)) → Gives s n words → steps s (Some x) t
+      → (x.0 ≡ n) × (words ≡ x.1.now ∷ drop 1 words) × Gives t (n + 1) (drop 1 words)
+  turn n [] s t x h k = absurd (h.runs x t k)
+  turn n (word ∷ words) s t x h k =
+      let m = h.runs.1 x t k in
+      (ap (λ (p : ℕ × List ℕ). p.0) m.0, ap (λ (p : ℕ × List ℕ). p.1 ∷ words) (sym m.0), record { runs = m.1 })
+
+  pub over : (n : ℕ) (words : List (List ℕ)) (s t : S) → Gives s n words → steps s None t → words ≡ []
+  over n [] s t h k = refl
+  over n (word ∷ words) s t h k = absurd (h.runs.0 t k)
+
+-- ---- the first word, and the others
+pub first_word : {S : Type 0} {steps : S → Option (Bor (List ℕ)) → S → Type 0} (words : List (List ℕ)) (s t : S) (r : Option (Bor (List ℕ))) (w : List ℕ)
+    → w ≡ unwrap_or (option_map (λ x. x.now) r) [] → steps s r t → YieldsList steps (λ x. x.now) s words → w ≡ unwrap_or (slice_get words 0) []
+first_word [] s t None w q e h = q
+first_word [] s t (Some x) w q e h = absurd (h.runs x t e)
+first_word (word ∷ words) s t None w q e h = absurd (h.runs.0 t e)
+first_word (word ∷ words) s t (Some x) w q e h = q ∙ (h.runs.1 x t e).0
+
+begun : (forms : List Form) (words : List (List ℕ)) → 0 < length words
+    → call_of forms words ≡ call_from (find (λ f. same f.word (unwrap_or (slice_get words 0) [])) forms) (drop 1 words)
+unfolding call_of
+begun forms [] h = absurd (omega arith)
+begun forms (word ∷ words) h = refl
+
+pub named : (words : List (List ℕ)) (w : List ℕ) (o : Option Row) → 0 < length words → w ≡ unwrap_or (slice_get words 0) [] → option_map form_of o ≡ find (λ f. same f.word w) calls
+    → call_of calls words ≡ call_from (option_map form_of o) (drop 1 words)
+named words w o h q e =
+    begun calls words h
+    ∙ ap (λ (v : List ℕ). call_from (find (λ f. same f.word v) calls) (drop 1 words)) (sym q)
+    ∙ ap (λ (f : Option Form). call_from f (drop 1 words)) (sym e)
+
+-- ---- the arguments from place i on
+module _ (kinds : List Kind) (words : List (List ℕ)) (name : CallName) (i : ℕ) (args : List ℕ) where
+  abbrev left : Result Call Fault
+  left = fields_of kinds words name i args
+
+  pub whole : kinds ≡ [] → words ≡ [] → left ≡ Ok (record { name = name; args = args })
   unfolding fields_of
-  missing h k = rw (drop-cons kinds i 0, words_none line from)
+  whole h k = rw (h, k)
 
-  pub whole : length kinds ≤ i → length line < from → left ≡ record { code = code; args = args }
+  pub missing : (kind : Kind) (rest : List Kind) → kinds ≡ kind ∷ rest → words ≡ [] → left ≡ Err (TooFew name)
   unfolding fields_of
-  whole h k = rw (drop_of_length-le kinds h, words_none line from)
+  missing kind rest h k = rw (h, k)
 
-  pub extra : length kinds ≤ i → from ≤ length line → left ≡ too_many code
+  pub extra : (word : List ℕ) (more : List (List ℕ)) → kinds ≡ [] → words ≡ word ∷ more → left ≡ Err (TooMany name)
   unfolding fields_of
-  extra h k = rw (drop_of_length-le kinds h, words_first line from (from + index_of 32 (drop from line)) k refl)
+  extra word more h k = rw (h, k)
 
-  pub many : i < length kinds → from ≤ length line → 9 ≤ i → left ≡ too_many code
-  unfolding fields_of
-  many h k n = rw (drop-cons kinds i 0, words_first line from (from + index_of 32 (drop from line)) k refl, le-ltb i 9 n)
-
-  module _ (e : ℕ) (h : i < length kinds) (k : from ≤ length line) (n : i < 9) (q : e ≡ from + index_of 32 (drop from line)) where
-    taken : (r : Read) → field_of (get_or kinds i 0) (take (e - from) (drop from line)) ≡ r
-        → left ≡ with_value r (λ v. fields_of (drop (i + 1) kinds) (words_from line (e + 1)) code (i + 1) (set args i v)) (wrong_argument code (i + 1) (get_or kinds i 0))
+  module _ (kind : Kind) (rest : List Kind) (word : List ℕ) (more : List (List ℕ)) (h : kinds ≡ kind ∷ rest) (k : words ≡ word ∷ more) where
+    pub many : 9 ≤ i → left ≡ Err (TooMany name)
     unfolding fields_of
-    taken r p = rw (drop-cons kinds i 0, words_first line from e k q, lt-ltb i 9 n, p, add-one i)
+    many n = rw (h, k, le-ltb i 9 n)
 
-    pub wrong : field_of (get_or kinds i 0) (take (e - from) (drop from line)) ≡ Bad → left ≡ wrong_argument code (i + 1) (get_or kinds i 0)
-    wrong p = taken Bad p
+    taken : (r : Option ℕ) → i < 9 → field_of kind word ≡ r → left ≡ with_value r (λ v. fields_of rest more name (suc i) (set args i v)) (WrongArgument name (suc i) kind)
+    unfolding fields_of
+    taken r n p = rw (h, k, lt-ltb i 9 n, p)
 
-    pub right : (v : ℕ) → field_of (get_or kinds i 0) (take (e - from) (drop from line)) ≡ Value v
-        → left ≡ fields_of (drop (i + 1) kinds) (words_from line (e + 1)) code (i + 1) (set args i v)
-    right v p = taken (Value v) p
+    pub wrong : (place : ℕ) → place ≡ i + 1 → i < 9 → field_of kind word ≡ None → left ≡ Err (WrongArgument name place kind)
+    wrong place e n p = taken None n p ∙ ap (λ (k : ℕ). Err (WrongArgument name k kind)) (sym (e ∙ add-one i))
 
--- ---- the rows of the table from `at` on
-module _ (table line : List ℕ) (e : ℕ) (q : e ≡ 0 + index_of 32 (drop 0 line)) where
-  pub begun : call_of (split table) (split line) ≡ call_from (words_from table 0) (take e line) (words_from line (e + 1)) 0
-  unfolding call_of
-  begun =
-      ap (λ (rows : List (List ℕ)). call_of rows (split line)) (from_start table)
-      ∙ ap (call_of (words_from table 0)) (from_start line ∙ words_first line 0 e zero-le q)
-      ∙ ap (λ (n : ℕ). call_from (words_from table 0) (take n line) (words_from line (e + 1)) 0) (sub-zero e)
+    pub right : (v : ℕ) → i < 9 → field_of kind word ≡ Some v → left ≡ fields_of rest more name (suc i) (set args i v)
+    right v n p = taken (Some v) n p
 
-module _ (table word : List ℕ) (words : List (List ℕ)) (code at : ℕ) where
-  pub ended : length table ≤ at → call_from (words_from table at) word words code ≡ unknown_word
-  unfolding call_from words_from split
-  ended h = rw (drop_of_length-le table h) (by (leb at (length table)))
-    where
-      by : (t : Bool) → call_from (cond t ([] ∷ []) []) word words code ≡ unknown_word
-      by true = refl
-      by false = refl
+-- ---- a turn of the loop, after which n words are taken and not m
+module _ (words : List (List ℕ)) (m n : ℕ) (e : n ≡ m + 1) where
+  pub goes_on : {S : Type 0} (steps : S → Option (ℕ × Bor (List ℕ)) → S → Type 0) (s : S) → Gives steps s (m + 1) (drop 1 (drop (m + 1) words)) → Gives steps s n (drop (n + 1) words)
+  goes_on {S} steps s h =
+      subst (λ (k : ℕ). Gives steps s k (drop (k + 1) words)) (sym e) (subst (λ (l : List (List ℕ)). Gives steps s (m + 1) l) (drop-drop 1 (m + 1) words) h)
 
-  module _ (n : ℕ) (h : at ≤ length table) (p : n ≡ at + index_of 32 (drop at table)) where
-    pub half : length table ≤ n → call_from (words_from table at) word words code ≡ unknown_word
-    unfolding call_from
-    half k = rw (words_first table at n h p, words_none table (n + 1) (omega arith))
-
-    module _ (m : ℕ) (k : n < length table) (q : m ≡ n + 1 + index_of 32 (drop (n + 1) table)) where
-      row_at : (t : Bool) → same (take (n - at) (drop at table)) word ≡ t
-          → call_from (words_from table at) word words code
-          ≡ cond t (fields_of (take (m - (n + 1)) (drop (n + 1) table)) words code 0 (replicate 9 0)) (call_from (words_from table (m + 1)) word words (code + 1))
-      unfolding call_from
-      row_at t e =
-          let room : n + 1 ≤ length table = omega arith in
-          rw (words_first table at n h p, words_first table (n + 1) m room q, e, add-one code)
-
-      pub found : same (take (n - at) (drop at table)) word ≡ true → call_from (words_from table at) word words code ≡ fields_of (take (m - (n + 1)) (drop (n + 1) table)) words code 0 (replicate 9 0)
-      found e = row_at true e
-
-      pub passed : same (take (n - at) (drop at table)) word ≡ false → call_from (words_from table at) word words code ≡ call_from (words_from table (m + 1)) word words (code + 1)
-      passed e = row_at false e
+  pub with_next : (kinds : List Kind) (name : CallName) (args : List ℕ) (v place : ℕ) → place ≡ m
+      → fields_of kinds (drop 1 (drop (m + 1) words)) name (suc m) (set args m v) ≡ fields_of kinds (drop (n + 1) words) name n (set args place v)
+  with_next kinds name args v place q =
+      ap (λ (l : List (List ℕ)). fields_of kinds l name (suc m) (set args m v)) (drop-drop 1 (m + 1) words)
+      ∙ ap (λ (k : ℕ). fields_of kinds (drop (m + 1 + 1) words) name k (set args m v)) (sym (add-one m))
+      ∙ ap (λ (k : ℕ). fields_of kinds (drop (k + 1) words) name k (set args m v)) (sym e)
+      ∙ ap (λ (k : ℕ). fields_of kinds (drop (n + 1) words) name n (set args k v)) (sym q)
 
 -- ---- a line, by the tests that come first
-pub too_long : (line : List ℕ) → 4095 < length line → parsed line ≡ long_line
+pub too_long : (line : List ℕ) → 4095 < length line → parsed line ≡ Err LongLine
 unfolding parsed
 too_long line h = simp (lt-ltb 4095 (length line) h)
 
-pub nothing : (line : List ℕ) → length line ≡ 0 → parsed line ≡ no_call
+pub nothing : (line : List ℕ) → length line ≡ 0 → parsed line ≡ Ok None
 unfolding parsed
-nothing [] e = refl
-nothing (b ∷ rest) e = absurd (not-suc-le-zero (le_of_eq e))
+nothing [] h = refl
+nothing (b ∷ line) h = cc
 
-starts : (line : List ℕ) (t : Bool) → (length line ≡ 0 → ⊥) → eqb (get_or line 0 0) 35 ≡ t → passed_over line ≡ t
-starts [] t n e = absurd (n refl)
-starts (b ∷ rest) t n e = e
+begins : (line : List ℕ) (t : Bool) → (length line ≡ 0 → ⊥) → bytes_eq (35 ∷ []) (take 1 line) ≡ t → passed_over line ≡ t
+begins [] t n e = absurd (n refl)
+begins (b ∷ line) t n e = grind (arith, nat_tests)
 
 module _ (line : List ℕ) (h : length line ≤ 4095) (n : length line ≡ 0 → ⊥) where
-  pub comment : get_or line 0 0 ≡ 35 → parsed line ≡ no_call
+  pub comment : bytes_eq (35 ∷ []) (take 1 line) ≡ true → parsed line ≡ Ok None
   unfolding parsed
-  comment e = simp (le-ltb 4095 (length line) h, starts line true n (eq-eqb (get_or line 0 0) 35 e))
+  comment e = simp (le-ltb 4095 (length line) h, begins line true n e)
 
-  module _ (k : get_or line 0 0 ≡ 35 → ⊥) where
-    left_over : parsed line ≡ cond (has 9 line || has 13 line) control_byte (call_of calls (split line))
+  module _ (e : bytes_eq (35 ∷ []) (take 1 line) ≡ false) where
+    kept : parsed line ≡ cond (has 9 line || has 13 line) (Err ControlByte) (some_call (call_of calls (split line)))
     unfolding parsed
-    left_over = simp (le-ltb 4095 (length line) h, starts line false n (ne_eqb (get_or line 0 0) 35 k))
+    kept = simp (le-ltb 4095 (length line) h, begins line false n e)
 
-    pub tabbed : (i : ℕ) → i ≡ 0 + index_of 9 (drop 0 line) → i < length line → parsed line ≡ control_byte
-    tabbed i q e = left_over ∙ simp (lt-ltb (index_of 9 line) (length line) (omega arith))
+    pub tabbed : has 9 line ≡ true → parsed line ≡ Err ControlByte
+    tabbed t = kept ∙ simp t
 
-    module _ (i : ℕ) (q : i ≡ 0 + index_of 9 (drop 0 line)) (e : length line ≤ i) (j : ℕ) (p : j ≡ 0 + index_of 13 (drop 0 line)) where
-      pub returned : j < length line → parsed line ≡ control_byte
-      returned f = left_over ∙ simp (le-ltb (index_of 9 line) (length line) (omega arith), lt-ltb (index_of 13 line) (length line) (omega arith))
+    module _ (t : has 9 line ≡ false) where
+      pub returned : has 13 line ≡ true → parsed line ≡ Err ControlByte
+      returned r = kept ∙ simp (t, r)
 
-      pub called : length line ≤ j → parsed line ≡ call_of calls (split line)
-      called f = left_over ∙ simp (le-ltb (index_of 9 line) (length line) (omega arith), le-ltb (index_of 13 line) (length line) (omega arith))
+      pub called : has 13 line ≡ false → parsed line ≡ some_call (call_of calls (split line))
+      called r = kept ∙ simp (t, r)
 
--- the fields of a call, by its words
-pub ruleset fields_rules = (extra, many, missing, right, whole, wrong)
+pub ruleset parse_rules = (too_long, nothing, comment, tabbed, returned, called)

@@ -1,123 +1,111 @@
 -- A line as a call: the line script's table, and how a line goes by it.
-use Rattle.std.specs.Prelude.{ℕ, suc, Bool, true, cond, ◌||◌, List, [], ◌∷◌, length, set, replicate, ltb, eqb}
+use Rattle.std.specs.Prelude.{ℕ, suc, Bool, true, cond, ◌||◌, List, [], ◌∷◌, length, set, replicate, ltb, eqb, Option, Some, None, Result, Ok, Err, find}
+use Rattle.std.specs.List.{list_any}
 use Prim.Native.Char.{code}
 use Prim.Native.String.{String}
-use Rattle.script_words.specs.Number.{field_of}
 use Rattle.text.specs.Ascii.{ascii}
-use Rattle.script_words.specs.Word.{index_of, split}
 use Rattle.text.specs.Text.{same}
-use Rattle.script_words.specs.declared.Read.{Read}
-use Rattle.script_words.specs.declared.Read.TheVariants.{Value, Bad}
+use Rattle.script_words.specs.Number.{field_of}
+use Rattle.script_words.specs.Word.{split}
+use Rattle.script_words.specs.declared.Kind.{Kind}
+use Rattle.script_words.specs.declared.Kind.TheVariants.{Flag, U8, U16, U32, U64, Name}
 use Rattle.script.specs.declared.Call.{Call}
+use Rattle.script.specs.declared.Fault.{Fault}
+use Rattle.script.specs.declared.Fault.TheVariants.{LongLine, ControlByte, UnknownWord, TooFew, TooMany, WrongArgument}
+use Rattle.script.specs.declared.calls.Row.{Row}
+use Rattle.script.specs.declared.calls.CallName.{CallName}
+use Rattle.script.specs.declared.calls.CallName.TheVariants.{StartLimits, StartModel, GetU32, GetF32, WriteU32, WriteF32, FreshState, Store, Mode, Clock, Sent, SendTimeout, SendFailed, Slept, Frame, FrameLent, Accepts, Patch, Session, Mit, PosVel, Vel, ForcePos, ReadReg, WriteReg, StoreParams, FeedbackRequest, Disable, Zero, Clear, Decode, Sort, StatusName, Register, Match, Suggest}
 
-abbrev pub row : String → String → List (List ℕ) → List (List ℕ)
-row name kinds rows = ascii name ∷ (ascii kinds ∷ rows)
+-- what a call looks like: its word, its name, and the kinds of its arguments
+pub record Form : Type 0 where
+  pub word : List ℕ
+  pub name : CallName
+  pub kinds : List Kind
 
--- each call's word, and a letter for the kind of each argument; a call's code is its place here
-unfoldable pub calls : List (List ℕ)
+abbrev pub form : String → CallName → List Kind → List Form → List Form
+form word name kinds forms = (record { word = ascii word; name = name; kinds = kinds }) ∷ forms
+
+unfoldable pub calls : List Form
 calls =
-    row "start-limits" "iiwww"
-    (row "start-model" "nii"
-    (row "get-u32" "bq"
-    (row "get-f32" "bq"
-    (row "write-u32" "bw"
-    (row "write-f32" "bw"
-    (row "fresh-state" "q"
-    (row "store" ""
-    (row "mode" "wq"
-    (row "clock" "q"
-    (row "sent" ""
-    (row "send-timeout" ""
-    (row "send-failed" ""
-    (row "slept" ""
-    (row "frame" "qwqbf"
-    (row "frame-lent" "qwqbf"
-    (row "accepts" "wqbf"
-    (row "patch" "bbb"
-    (row "session" ""
-    (row "mit" "iwwwwwwww"
-    (row "pos-vel" "iww"
-    (row "vel" "iw"
-    (row "force-pos" "iwww"
-    (row "read-reg" "ib"
-    (row "write-reg" "ibw"
-    (row "store-params" "i"
-    (row "feedback-request" "i"
-    (row "disable" "i"
-    (row "zero" "i"
-    (row "clear" "i"
-    (row "decode" "wwwq"
-    (row "sort" "q"
-    (row "status-name" "b"
-    (row "register" "b"
-    (row "match" "wwww"
-    (row "suggest" "wwwq" [])))))))))))))))))))))))))))))))))))
+    form "start-limits" StartLimits (U16 ∷ (U16 ∷ (U32 ∷ (U32 ∷ (U32 ∷ [])))))
+    (form "start-model" StartModel (Name ∷ (U16 ∷ (U16 ∷ [])))
+    (form "get-u32" GetU32 (U8 ∷ (U64 ∷ []))
+    (form "get-f32" GetF32 (U8 ∷ (U64 ∷ []))
+    (form "write-u32" WriteU32 (U8 ∷ (U32 ∷ []))
+    (form "write-f32" WriteF32 (U8 ∷ (U32 ∷ []))
+    (form "fresh-state" FreshState (U64 ∷ [])
+    (form "store" Store []
+    (form "mode" Mode (U32 ∷ (U64 ∷ []))
+    (form "clock" Clock (U64 ∷ [])
+    (form "sent" Sent []
+    (form "send-timeout" SendTimeout []
+    (form "send-failed" SendFailed []
+    (form "slept" Slept []
+    (form "frame" Frame (U64 ∷ (U32 ∷ (U64 ∷ (U8 ∷ (Flag ∷ [])))))
+    (form "frame-lent" FrameLent (U64 ∷ (U32 ∷ (U64 ∷ (U8 ∷ (Flag ∷ [])))))
+    (form "accepts" Accepts (U32 ∷ (U64 ∷ (U8 ∷ (Flag ∷ []))))
+    (form "patch" Patch (U8 ∷ (U8 ∷ (U8 ∷ [])))
+    (form "session" Session []
+    (form "mit" Mit (U16 ∷ (U32 ∷ (U32 ∷ (U32 ∷ (U32 ∷ (U32 ∷ (U32 ∷ (U32 ∷ (U32 ∷ [])))))))))
+    (form "pos-vel" PosVel (U16 ∷ (U32 ∷ (U32 ∷ [])))
+    (form "vel" Vel (U16 ∷ (U32 ∷ []))
+    (form "force-pos" ForcePos (U16 ∷ (U32 ∷ (U32 ∷ (U32 ∷ []))))
+    (form "read-reg" ReadReg (U16 ∷ (U8 ∷ []))
+    (form "write-reg" WriteReg (U16 ∷ (U8 ∷ (U32 ∷ [])))
+    (form "store-params" StoreParams (U16 ∷ [])
+    (form "feedback-request" FeedbackRequest (U16 ∷ [])
+    (form "disable" Disable (U16 ∷ [])
+    (form "zero" Zero (U16 ∷ [])
+    (form "clear" Clear (U16 ∷ [])
+    (form "decode" Decode (U32 ∷ (U32 ∷ (U32 ∷ (U64 ∷ []))))
+    (form "sort" Sort (U64 ∷ [])
+    (form "status-name" StatusName (U8 ∷ [])
+    (form "register" Register (U8 ∷ [])
+    (form "match" Match (U32 ∷ (U32 ∷ (U32 ∷ (U32 ∷ []))))
+    (form "suggest" Suggest (U32 ∷ (U32 ∷ (U32 ∷ (U64 ∷ [])))) [])))))))))))))))))))))))))))))))))))
 
-abbrev pub plain : ℕ → Call
-plain code = record { code = code; args = replicate 9 0 }
+abbrev pub form_of : Row → Form
+form_of r = record { word = r.0.now; name = r.1; kinds = r.2.now }
 
--- a bad line: what is wrong with it, the code of the call that its word names, and of an argument that does not fit its place, from 1 on, and the letter of its kind
-abbrev pub bad_line : ℕ → ℕ → ℕ → ℕ → Call
-bad_line fault code place kind = record { code = 254; args = fault ∷ (code ∷ (place ∷ (kind ∷ replicate 5 0))) }
-
-abbrev pub long_line : Call
-long_line = bad_line 0 0 0 0
-
-abbrev pub control_byte : Call
-control_byte = bad_line 1 0 0 0
-
-abbrev pub unknown_word : Call
-unknown_word = bad_line 2 0 0 0
-
-abbrev pub too_few : ℕ → Call
-too_few code = bad_line 3 code 0 0
-
-abbrev pub too_many : ℕ → Call
-too_many code = bad_line 4 code 0 0
-
-abbrev pub wrong_argument : ℕ → ℕ → ℕ → Call
-wrong_argument code place kind = bad_line 5 code place kind
-
--- a line that writes nothing
-abbrev pub no_call : Call
-no_call = plain 255
-
-abbrev pub with_value : Read → (ℕ → Call) → Call → Call
-with_value (Value n) next other = next n
-with_value Bad next other = other
+abbrev pub with_value : Option ℕ → (ℕ → Result Call Fault) → Fault → Result Call Fault
+with_value (Some n) next fault = next n
+with_value None next fault = Err fault
 
 -- the words as the arguments from place i on, one for each kind, nine at most
-unfoldable pub fields_of : List ℕ → List (List ℕ) → ℕ → ℕ → List ℕ → Call
-fields_of [] [] code i args = record { code = code; args = args }
-fields_of [] (word ∷ words) code i args = too_many code
-fields_of (kind ∷ kinds) [] code i args = too_few code
-fields_of (kind ∷ kinds) (word ∷ words) code i args =
+unfoldable pub fields_of : List Kind → List (List ℕ) → CallName → ℕ → List ℕ → Result Call Fault
+fields_of [] [] name i args = Ok (record { name = name; args = args })
+fields_of [] (word ∷ words) name i args = Err (TooMany name)
+fields_of (kind ∷ kinds) [] name i args = Err (TooFew name)
+fields_of (kind ∷ kinds) (word ∷ words) name i args =
     cond (ltb i 9)
-    (with_value (field_of kind word) (λ n. fields_of kinds words code (suc i) (set args i n)) (wrong_argument code (suc i) kind))
-    (too_many code)
+    (with_value (field_of kind word) (λ n. fields_of kinds words name (suc i) (set args i n)) (WrongArgument name (suc i) kind))
+    (Err (TooMany name))
 
--- the call of the first row that has this word
-unfoldable pub call_from : List (List ℕ) → List ℕ → List (List ℕ) → ℕ → Call
-call_from [] word words code = unknown_word
-call_from (name ∷ []) word words code = unknown_word
-call_from (name ∷ (kinds ∷ rows)) word words code =
-    cond (same name word) (fields_of kinds words code 0 (replicate 9 0)) (call_from rows word words (suc code))
+-- the call of this form, where there is one
+unfoldable pub call_from : Option Form → List (List ℕ) → Result Call Fault
+call_from None words = Err UnknownWord
+call_from (Some f) words = fields_of f.kinds words f.name 0 (replicate 9 0)
 
-unfoldable pub call_of : List (List ℕ) → List (List ℕ) → Call
-call_of rows [] = unknown_word
-call_of rows (word ∷ words) = call_from rows word words 0
+-- the first form that has the line's first word
+unfoldable pub call_of : List Form → List (List ℕ) → Result Call Fault
+call_of forms [] = Err UnknownWord
+call_of forms (word ∷ words) = call_from (find (λ f. same f.word word) forms) words
 
 abbrev pub has : ℕ → List ℕ → Bool
-has b s = ltb (index_of b s) (length s)
+has b s = list_any (λ x. eqb x b) s
 
 abbrev pub passed_over : List ℕ → Bool
 passed_over [] = true
 passed_over (b ∷ rest) = eqb b (code "#")
 
+abbrev pub some_call : Result Call Fault → Result (Option Call) Fault
+some_call (Ok call) = Ok (Some call)
+some_call (Err fault) = Err fault
+
 -- a line of more than 4,095 bytes is bad whatever it begins with; so is one with a tab or a carriage return that is not passed over
-unfoldable pub parsed : List ℕ → Call
+unfoldable pub parsed : List ℕ → Result (Option Call) Fault
 parsed line =
-    cond (ltb 4095 (length line)) long_line
-    (cond (passed_over line) no_call
-    (cond (has 9 line || has 13 line) control_byte
-    (call_of calls (split line))))
+    cond (ltb 4095 (length line)) (Err LongLine)
+    (cond (passed_over line) (Ok None)
+    (cond (has 9 line || has 13 line) (Err ControlByte)
+    (some_call (call_of calls (split line)))))

@@ -1,19 +1,32 @@
-// The line script: which call a line is, with its arguments as numbers. A line that is none is told
-// apart from an empty one, and says why.
+// The line script: which call a line is, with its arguments as numbers, or why it is none.
 #![tactic(auto)]
 
-pub mod calls;
-pub mod faults;
+mod calls;
+mod lines;
 
-pub use calls::parse;
+pub use calls::CallName;
+pub use lines::parse;
+use script_words::Kind;
 
 // The bytes that a line may have.
 pub const MAX_LINE: usize = 4095;
 
 // A line's call and its arguments, in their order, with zeros after them. A name's argument is its
-// length. Those of a bad line say why it is bad (`faults`).
-#[derive(Clone, Copy)]
+// length.
+#[derive(Clone, Copy, PartialEq, Eq, Debug)]
 pub struct Call {
-    pub code: u64,
+    pub name: CallName,
     pub args: [u64; 9],
+}
+
+// Why a line is bad: the first thing that is wrong with it, from left to right. Of an argument that
+// does not fit it says the place, from 1 on, and the kind.
+#[derive(Clone, Copy, PartialEq, Eq, Debug)]
+pub enum Fault {
+    LongLine,
+    ControlByte,
+    UnknownWord,
+    TooFew(CallName),
+    TooMany(CallName),
+    WrongArgument(CallName, usize, Kind),
 }

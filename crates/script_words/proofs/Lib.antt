@@ -1,3 +1,3 @@
-pub mod Words
 pub mod Digits
 pub mod Fields
+pub mod Words

@@ -1,9 +1,9 @@
 -- A word as a number: decimal digits, or `0x` and hexadecimal digits of either case; at least one digit; below 2 ^ 64.
--- An argument's kind is a letter: `f` a flag, `b` 8 bits, `i` 16, `w` 32, `q` 64, and `n` a name.
-use Rattle.std.specs.Prelude.{ℕ, ◌+◌, ◌-◌, ◌*◌, ◌^◌, Bool, true, cond, ◌&&◌, List, [], ◌∷◌, length, ltb, leb, eqb}
+-- What an argument may be is its kind's: a flag, 8, 16, 32 or 64 bits, or a name.
+use Rattle.std.specs.Prelude.{ℕ, ◌+◌, ◌-◌, ◌*◌, ◌^◌, Bool, true, cond, ◌&&◌, List, [], ◌∷◌, length, ltb, leb, eqb, Option, Some, None}
 use Prim.Native.Char.{code}
-use Rattle.script_words.specs.declared.Read.{Read}
-use Rattle.script_words.specs.declared.Read.TheVariants.{Value, Bad}
+use Rattle.script_words.specs.declared.Kind.{Kind}
+use Rattle.script_words.specs.declared.Kind.TheVariants.{Flag, U8, U16, U32, U64, Name}
 
 abbrev pub between : ℕ → ℕ → ℕ → Bool
 between low high b = leb low b && leb b high
@@ -26,37 +26,38 @@ value_of base v [] = v
 value_of base v (b ∷ rest) = value_of base (v * base + digit_of b) rest
 
 -- digits that follow others of value v, as a number
-unfoldable pub digits_after : ℕ → ℕ → List ℕ → Read
+unfoldable pub digits_after : ℕ → ℕ → List ℕ → Option ℕ
 digits_after base v s =
-    cond (all_digits base s && ltb (value_of base v s) (2 ^ 64)) (Value (value_of base v s)) Bad
+    cond (all_digits base s && ltb (value_of base v s) (2 ^ 64)) (Some (value_of base v s)) None
 
-unfoldable pub digits_of : ℕ → List ℕ → Read
-digits_of base [] = Bad
+unfoldable pub digits_of : ℕ → List ℕ → Option ℕ
+digits_of base [] = None
 digits_of base (b ∷ rest) = digits_after base 0 (b ∷ rest)
 
-unfoldable pub number_of : List ℕ → Read
-number_of [] = Bad
+unfoldable pub number_of : List ℕ → Option ℕ
+number_of [] = None
 number_of (a ∷ []) = digits_of 10 (a ∷ [])
 number_of (a ∷ (b ∷ rest)) =
     cond (eqb a (code "0") && eqb b (code "x")) (digits_of 16 rest) (digits_of 10 (a ∷ (b ∷ rest)))
 
 -- the largest number of a field
-unfoldable pub limit_of : ℕ → ℕ
-limit_of kind =
-    cond (eqb kind (code "f")) 1
-    (cond (eqb kind (code "b")) (2 ^ 8 - 1)
-    (cond (eqb kind (code "i")) (2 ^ 16 - 1)
-    (cond (eqb kind (code "w")) (2 ^ 32 - 1)
-    (2 ^ 64 - 1))))
+unfoldable pub limit_of : Kind → ℕ
+limit_of Flag = 1
+limit_of U8 = 2 ^ 8 - 1
+limit_of U16 = 2 ^ 16 - 1
+limit_of U32 = 2 ^ 32 - 1
+limit_of U64 = 2 ^ 64 - 1
+limit_of Name = 2 ^ 64 - 1
 
-unfoldable pub at_most : ℕ → Read → Read
-at_most limit (Value n) = cond (leb n limit) (Value n) Bad
-at_most limit Bad = Bad
+unfoldable pub at_most : ℕ → Option ℕ → Option ℕ
+at_most limit (Some n) = cond (leb n limit) (Some n) None
+at_most limit None = None
 
 -- a name's length, of a name that is not empty
-unfoldable pub name_of : List ℕ → Read
-name_of [] = Bad
-name_of (b ∷ rest) = Value (length (b ∷ rest))
+unfoldable pub name_of : List ℕ → Option ℕ
+name_of [] = None
+name_of (b ∷ rest) = Some (length (b ∷ rest))
 
-unfoldable pub field_of : ℕ → List ℕ → Read
-field_of kind word = cond (eqb kind (code "n")) (name_of word) (at_most (limit_of kind) (number_of word))
+unfoldable pub field_of : Kind → List ℕ → Option ℕ
+field_of Name word = name_of word
+field_of kind word = at_most (limit_of kind) (number_of word)
