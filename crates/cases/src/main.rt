@@ -7,13 +7,14 @@ mod sessions;
 
 use float::F32Bits;
 use model_damiao::damiao_models;
-use model_list::{ModelLimits, Names, model_limits, no_names, places};
+use model_list::{Names, model_limits};
 use model_query::Query;
 use model_shown::display_models;
 use model_suggest::suggest_models_by_limits;
+use motor_core::error::Refusal;
+use motor_core::model::Maxima;
 use motor_core::name::Name;
-use protocol_feedback::Decoded;
-use protocol_frame::Command;
+use protocol_setpoint::MitSetpoint;
 use std::io::Print;
 
 pub(crate) fn text(rt: &impl Print, words: &[u8]) {
@@ -22,101 +23,104 @@ pub(crate) fn text(rt: &impl Print, words: &[u8]) {
 
 pub(crate) fn line(rt: &impl Print, name: &[u8], number: u64) {
     text(rt, name);
-    let _ = print!(rt; "{number:x}");
-    text(rt, b"\n");
+    let _ = println!(rt; "{number:x}");
 }
 
-// The position code that an MIT frame carries, with the same limit three times.
-fn position_code(limit: F32Bits, position: f32) -> u64 {
+// The same limit three times.
+fn alike(limit: F32Bits) -> Maxima {
     let max = float::of_bits(limit);
-    let made = protocol_setpoint::mit_cmd(1, max, max, max, position, 0.0, 0.0, 0.0, 0.0);
-    match made {
-        Command::Frame(_, data) => data / 0x1_0000_0000_0000,
-        Command::Refused(n) => n as u64,
+    Maxima {
+        p_max: max,
+        v_max: max,
+        t_max: max,
+    }
+}
+
+// The position code that an MIT frame carries.
+fn position_code(limit: F32Bits, position: f32) -> u64 {
+    let setpoint = MitSetpoint {
+        target_position: position,
+        target_velocity: 0.0,
+        stiffness: 0.0,
+        damping: 0.0,
+        feedforward_torque: 0.0,
+    };
+    match protocol_setpoint::mit_cmd(1, alike(limit), setpoint) {
+        Ok(command) => command.data / 0x1_0000_0000_0000,
+        Err(refusal) => number(refusal),
     }
 }
 
 // The position that a code decodes to.
 fn position(limit: F32Bits, d1: u8, d2: u8) -> f32 {
-    let max = float::of_bits(limit);
-    let read = protocol_feedback::decode_feedback(max, max, max, [0, d1, d2, 0, 0, 0, 0, 0]);
-    match read {
-        Decoded::Feedback(f) => f.pos,
-        Decoded::Refused(_) => 0.0,
+    match protocol_feedback::decode_feedback(alike(limit), [0, d1, d2, 0, 0, 0, 0, 0]) {
+        Ok(feedback) => feedback.pos,
+        Err(_) => 0.0,
     }
+}
+
+pub(crate) fn number(refusal: Refusal) -> u64 {
+    u64::from(u8::from(refusal))
 }
 
 fn bits(x: f32) -> u64 {
-    let pattern = float::to_bits(x);
-    pattern.0 as u64
+    u64::from(float::to_bits(x).0)
 }
 
-fn first(rt: &impl Print, bytes: &[u8], len: usize) {
-    if len <= bytes.len() {
-        text(rt, &bytes[0..len]);
-    }
+fn put_refused(rt: &impl Print, refusal: Refusal) {
+    let number = number(refusal);
+    let _ = print!(rt; " refused {number}");
 }
 
-// A space and the name.
-fn word(rt: &impl Print, name: Name) {
-    let bytes = name.bytes;
-    text(rt, b" ");
-    first(rt, &bytes, name.len as usize);
-}
-
-fn words(rt: &impl Print, names: Names) {
-    let held = names.names;
-    let count = places(names.count);
-    for i in 0..count {
-        let name = held[i];
-        word(rt, name);
+fn words(rt: &impl Print, names: &Names) {
+    for name in names.as_slice() {
+        text(rt, b" ");
+        text(rt, name.as_bytes());
     }
 }
 
 // The models nearest to a query, in their order.
 fn nearest(rt: &impl Print, name: &[u8], query: Query, count: usize) {
-    let listing = suggest_models_by_limits(damiao_models(), query, count);
-    let names = listing.names;
     text(rt, name);
-    words(rt, names);
+    match suggest_models_by_limits(&damiao_models(), query, count) {
+        Ok(names) => words(rt, &names),
+        Err(refusal) => put_refused(rt, refusal),
+    }
     text(rt, b"\n");
 }
 
 // All models as they are shown.
 fn shown(rt: &impl Print) {
-    let all = suggest_models_by_limits(
-        damiao_models(),
-        Query {
-            p: 12.5,
-            v: 20.0,
-            t: 28.0,
-        },
-        16,
-    );
-    let names = all.names;
+    let query = Query {
+        p: 12.5,
+        v: 20.0,
+        t: 28.0,
+    };
     text(rt, b"nearest to 12.5, 20, 28, as they are shown:");
-    words(rt, display_models(names));
+    match suggest_models_by_limits(&damiao_models(), query, 16) {
+        Ok(names) => words(rt, &display_models(&names)),
+        Err(refusal) => put_refused(rt, refusal),
+    }
     text(rt, b"\n");
 }
 
 // One name twice, under which two models are shown.
 fn shown_once(rt: &impl Print) {
-    let mut names = no_names();
-    names.names[0] = Name {
+    let mut names = Names::new();
+    names.push(Name {
         bytes: *b"4340X          ",
         len: 5,
-    };
-    names.names[1] = Name {
+    });
+    names.push(Name {
         bytes: *b"4340_v20       ",
         len: 8,
-    };
-    names.names[2] = Name {
+    });
+    names.push(Name {
         bytes: *b"4340X          ",
         len: 5,
-    };
-    names.count = 3;
+    });
     text(rt, b"4340X 4340_v20 4340X are shown as:");
-    words(rt, display_models(names));
+    words(rt, &display_models(&names));
     text(rt, b"\n");
 }
 
@@ -124,25 +128,20 @@ fn shown_once(rt: &impl Print) {
 fn limits(rt: &impl Print, name: &[u8]) {
     text(rt, b"limits of ");
     text(rt, name);
-    let found = model_limits(damiao_models(), name);
-    match found {
-        ModelLimits::Limits(maxima) => {
+    match model_limits(&damiao_models(), name) {
+        Ok(maxima) => {
             float_bits(rt, maxima.p_max);
             float_bits(rt, maxima.v_max);
             float_bits(rt, maxima.t_max);
         }
-        ModelLimits::Refused(n) => {
-            text(rt, b" refused ");
-            let _ = print!(rt; "{n}");
-        }
+        Err(refusal) => put_refused(rt, refusal),
     }
     text(rt, b"\n");
 }
 
 fn float_bits(rt: &impl Print, x: f32) {
-    text(rt, b" ");
     let pattern = bits(x);
-    let _ = print!(rt; "{pattern:08x}");
+    let _ = print!(rt; " {pattern:08x}");
 }
 
 fn main(rt: HostRuntime) {
@@ -192,6 +191,12 @@ fn main(rt: HostRuntime) {
     shown_once(&rt);
     limits(&rt, b"6248P");
     limits(&rt, b"6248");
-    sessions::run(&rt);
-    running::run(&rt);
+    if let Err(refusal) = runs(&rt) {
+        put_refused(&rt, refusal);
+    }
+}
+
+fn runs(rt: &impl Print) -> Result<(), Refusal> {
+    sessions::run(rt)?;
+    running::run(rt)
 }

@@ -1,12 +1,14 @@
 // What runs want and come to where it is easily believed otherwise; runs that no start makes.
 use crate::sessions::{of_motor, started, take};
 use crate::text;
+use motor_core::error::Refusal;
+use protocol_frame::Command;
 use registers::RegisterDataType;
-use run_machine::{Machine, RunResult};
+use run_machine::{Machine, Outcome, RunResult};
 use run_wait::Wait;
 use run_wait::ask::Ask;
-use run_want::{Answer, Failure, SendResult};
-use session::{Phase, Run, Session};
+use run_want::{Answer, Failure, SendError};
+use session::Session;
 use session_answer::{AfterCall, answer_run};
 use session_begin::{ensure_control_mode, get_register_f32, get_register_u32, write_register_u32};
 use session_step::{Told, Wanted};
@@ -39,46 +41,46 @@ enum Begin {
     Mode(u32, Duration),
 }
 
-fn begun(motor_id: u16, begin: Begin) -> AfterCall {
-    let session = of_motor(motor_id);
-    match begin {
+fn begun(motor_id: u16, begin: Begin) -> Result<AfterCall, Refusal> {
+    let session = of_motor(motor_id)?;
+    Ok(match begin {
         Begin::GetU32(timeout) => get_register_u32(session, 10, timeout),
         Begin::GetF32(timeout) => get_register_f32(session, 10, timeout),
         Begin::WriteU32(value) => write_register_u32(session, 10, value),
         Begin::Mode(mode, timeout) => ensure_control_mode(session, mode, timeout),
-    }
+    })
 }
 
 fn put_told(rt: &impl Print, told: Told) {
     match told {
         Told::Want(want) => put_want(rt, want),
         Told::Result(result) => put_result(rt, result),
-        Told::Refused(_) => text(rt, b" refused"),
     }
 }
 
 fn put_want(rt: &impl Print, want: Wanted) {
     match want {
         Wanted::Clock => text(rt, b" clock"),
-        Wanted::Send(id, data) => put_send(rt, id, data),
+        Wanted::Send(command) => put_send(rt, command),
         Wanted::Sleep(_) => text(rt, b" sleep"),
     }
 }
 
-fn put_send(rt: &impl Print, id: u32, data: u64) {
-    text(rt, b" send ");
-    let _ = print!(rt; "{id:x}");
-    text(rt, b" ");
-    let _ = print!(rt; "{data:016x}");
+fn put_send(rt: &impl Print, command: Command) {
+    let Command {
+        arbitration_id,
+        data,
+    } = command;
+    let _ = print!(rt; " send {arbitration_id:x} {data:016x}");
 }
 
 fn put_result(rt: &impl Print, res: RunResult) {
     match res {
-        RunResult::Done => text(rt, b" done"),
-        RunResult::Value(_) => text(rt, b" value"),
-        RunResult::State(_) => text(rt, b" state"),
-        RunResult::NoState => text(rt, b" no state"),
-        RunResult::Failed(failure) => put_failure(rt, failure),
+        Ok(Outcome::Done) => text(rt, b" done"),
+        Ok(Outcome::Value(_)) => text(rt, b" value"),
+        Ok(Outcome::State(Some(_))) => text(rt, b" state"),
+        Ok(Outcome::State(None)) => text(rt, b" no state"),
+        Err(failure) => put_failure(rt, failure),
     }
 }
 
@@ -93,35 +95,31 @@ fn put_failure(rt: &impl Print, failure: Failure) {
 
 // Prints what a start or an answer returns.
 fn told(rt: &impl Print, turn: AfterCall) -> Session {
-    let told = turn.told;
-    put_told(rt, told);
+    match turn.told {
+        Ok(told) => put_told(rt, told),
+        Err(_) => text(rt, b" refused"),
+    }
     turn.session
 }
 
-fn head(session: Session, data: u64) -> Session {
-    let taking = take(session, data, 6);
-    taking.session
-}
-
-// A step by its letter: a frame, stamped 6, or an answer, of which a reading is 5 to 7.
+// A step by its letter, so that a run stands on one line: a frame, stamped 6, or an answer, of which a
+// reading is 5 to 7.
 fn step(rt: &impl Print, session: Session, letter: u8) -> Session {
-    let data = data_of(letter);
-    if data > 0 {
-        return head(session, data);
+    if let Some(data) = frame_of(letter) {
+        return take(session, data, 6).session;
     }
     told(rt, answer_run(session, answer_of(letter)))
 }
 
-// The bytes of a frame, or 0 for an answer.
-fn data_of(letter: u8) -> u64 {
+fn frame_of(letter: u8) -> Option<u64> {
     match letter {
-        b'r' => REPLY,
-        b'a' => ACK,
-        b'b' => ACK_TWO,
-        b'n' => NAN_POSITION,
-        b'p' => POSITION_4FF,
-        b'q' => POSITION_6FF,
-        _ => 0,
+        b'r' => Some(REPLY),
+        b'a' => Some(ACK),
+        b'b' => Some(ACK_TWO),
+        b'n' => Some(NAN_POSITION),
+        b'p' => Some(POSITION_4FF),
+        b'q' => Some(POSITION_6FF),
+        _ => None,
     }
 }
 
@@ -130,33 +128,46 @@ fn answer_of(letter: u8) -> Answer {
         b'5' => Answer::Reading(Instant(5)),
         b'6' => Answer::Reading(Instant(6)),
         b'7' => Answer::Reading(Instant(7)),
-        b't' => Answer::Send(SendResult::Timeout),
-        b'f' => Answer::Send(SendResult::Failed),
+        b't' => Answer::Send(Err(SendError::Timeout)),
+        b'f' => Answer::Send(Err(SendError::Failed)),
         b'z' => Answer::Slept,
-        _ => Answer::Send(SendResult::Sent),
+        _ => Answer::Send(Ok(())),
     }
 }
 
-fn steps(rt: &impl Print, session: Session, letters: &[u8]) {
-    let mut session = session;
-    for i in 0..letters.len() {
-        session = step(rt, session, letters[i]);
+fn steps(rt: &impl Print, mut session: Session, letters: &[u8]) {
+    for letter in letters {
+        session = step(rt, session, *letter);
     }
 }
 
 // A run of this motor from its beginning on, and what each of its steps returns.
-fn play(rt: &impl Print, name: &[u8], motor_id: u16, begin: Begin, letters: &[u8]) {
+fn play(
+    rt: &impl Print,
+    name: &[u8],
+    motor_id: u16,
+    begin: Begin,
+    letters: &[u8],
+) -> Result<(), Refusal> {
+    let begun = begun(motor_id, begin)?;
     text(rt, name);
-    steps(rt, told(rt, begun(motor_id, begin)), letters);
+    steps(rt, told(rt, begun), letters);
     text(rt, b"\n");
+    Ok(())
 }
 
 // A mode switch of motor 1.
-fn switch(rt: &impl Print, name: &[u8], mode: u32, timeout: Duration, letters: &[u8]) {
-    play(rt, name, 1, Begin::Mode(mode, timeout), letters);
+fn switch(
+    rt: &impl Print,
+    name: &[u8],
+    mode: u32,
+    timeout: Duration,
+    letters: &[u8],
+) -> Result<(), Refusal> {
+    play(rt, name, 1, Begin::Mode(mode, timeout), letters)
 }
 
-fn switches(rt: &impl Print) {
+fn switches(rt: &impl Print) -> Result<(), Refusal> {
     // A failed send in a mode read ends the switch only where it did not time out.
     switch(
         rt,
@@ -164,13 +175,13 @@ fn switches(rt: &impl Print) {
         1,
         MINUTE,
         b"555t",
-    );
-    switch(rt, b"otherwise:", 1, MINUTE, b"555f");
+    )?;
+    switch(rt, b"otherwise:", 1, MINUTE, b"555f")?;
     // At the deadline 0 ns remain, and the mode is still read.
-    switch(rt, b"a switch at its deadline:", 1, Duration(0), b"555s5");
-    switch(rt, b"past it:", 1, Duration(0), b"57");
+    switch(rt, b"a switch at its deadline:", 1, Duration(0), b"555s5")?;
+    switch(rt, b"past it:", 1, Duration(0), b"57")?;
     // The velocity mode's switch does not read register 80.
-    switch(rt, b"to the velocity mode:", 3, MINUTE, b"555tssss");
+    switch(rt, b"to the velocity mode:", 3, MINUTE, b"555tssss")?;
     // A NaN's bits travel, to the frames that clear and to the one that holds.
     switch(
         rt,
@@ -178,7 +189,7 @@ fn switches(rt: &impl Print) {
         2,
         MINUTE,
         b"555t55nssssssb66z",
-    );
+    )?;
     // A clearing frame may have the read's id and bytes.
     play(
         rt,
@@ -186,40 +197,34 @@ fn switches(rt: &impl Print) {
         0x4ff,
         Begin::Mode(1, MINUTE),
         b"555t55pssss",
-    );
+    )?;
     play(
         rt,
         b"motor 6FF, position 0A3306FF:",
         0x6ff,
         Begin::Mode(1, MINUTE),
         b"555t55qssss",
-    );
-}
-
-fn reading(rid: u8, timeout: Duration, ask: Ask) -> Run {
-    let machine = Machine::GetRegister(RegisterDataType::UInt32, rid, timeout, ask);
-    Run {
-        phase: Phase::Open(machine),
-    }
-}
-
-fn with_run(session: Session, run: Run) -> Session {
-    let mut session = session;
-    session.run = run;
-    session
+    )
 }
 
 // A session with this read open, answered once.
-fn made_up(rt: &impl Print, name: &[u8], rid: u8, timeout: Duration, ask: Ask, answer: Answer) {
+fn made_up(
+    rt: &impl Print,
+    name: &[u8],
+    rid: u8,
+    timeout: Duration,
+    ask: Ask,
+    answer: Answer,
+) -> Result<(), Refusal> {
+    let mut session = started()?;
     text(rt, name);
-    told(
-        rt,
-        answer_run(with_run(started(), reading(rid, timeout, ask)), answer),
-    );
+    session.run = Some(Machine::GetRegister(RegisterDataType::UInt32, rid, timeout, ask));
+    told(rt, answer_run(session, answer));
     text(rt, b"\n");
+    Ok(())
 }
 
-pub(crate) fn run(rt: &impl Print) {
+pub(crate) fn run(rt: &impl Print) -> Result<(), Refusal> {
     // A read opens before its send: a reply that comes between the two counts.
     play(
         rt,
@@ -227,7 +232,7 @@ pub(crate) fn run(rt: &impl Print) {
         1,
         Begin::GetU32(MINUTE),
         b"5rs",
-    );
+    )?;
     // A write opens after its send: an ack that comes before the opening does not count.
     play(
         rt,
@@ -235,7 +240,7 @@ pub(crate) fn run(rt: &impl Print) {
         1,
         Begin::WriteU32(1),
         b"as7",
-    );
+    )?;
     // Register 10 holds a whole number; reading it as a float is sent all the same.
     play(
         rt,
@@ -243,13 +248,13 @@ pub(crate) fn run(rt: &impl Print) {
         1,
         Begin::GetF32(Duration(0)),
         b"5rs",
-    );
-    play(rt, b"without:", 1, Begin::GetF32(Duration(0)), b"5s5");
-    switches(rt);
-    made_up_runs(rt);
+    )?;
+    play(rt, b"without:", 1, Begin::GetF32(Duration(0)), b"5s5")?;
+    switches(rt)?;
+    made_up_runs(rt)
 }
 
-fn made_up_runs(rt: &impl Print) {
+fn made_up_runs(rt: &impl Print) -> Result<(), Refusal> {
     made_up(
         rt,
         b"opening FFFFFFFFFFFFFFFF, length 3, reading 5:",
@@ -257,7 +262,7 @@ fn made_up_runs(rt: &impl Print) {
         Duration(3),
         Ask::Waiting(Wait::Checking(Instant(u64::MAX))),
         Answer::Reading(Instant(5)),
-    );
+    )?;
     made_up(
         rt,
         b"opening 5, length FFFFFFFFFFFFFFFF, reading 5:",
@@ -265,13 +270,13 @@ fn made_up_runs(rt: &impl Print) {
         Duration(u64::MAX),
         Ask::Waiting(Wait::Checking(Instant(5))),
         Answer::Reading(Instant(5)),
-    );
+    )?;
     made_up(
         rt,
         b"register FF, a look:",
         255,
         MINUTE,
         Ask::Sending(Instant(0)),
-        Answer::Send(SendResult::Sent),
-    );
+        Answer::Send(Ok(())),
+    )
 }

@@ -5,16 +5,14 @@ use session_lent::process_feedback_frame;
 use time::Instant;
 
 // A frame's reading is its place.
-fn after_frames(frames: &[u8], count: usize, mut session: Session) -> Session {
-    let mut k: usize = 0;
-    while k < count {
+fn after_frames(frames: &[u8], mut session: Session) -> Session {
+    for k in 0..frames.len() / 8 {
         let frame = frame_number(frames, k);
-        process_feedback_frame(&mut session, frame, Instant(k as u64));
-        k += 1;
+        let _ = process_feedback_frame(&mut session, frame, Instant(k as u64));
     }
     session
 }
 
 pub(crate) fn take_lent(frames: &[u8]) -> u64 {
-    session_total(after_frames(frames, frames.len() / 8, session_4310()))
+    session_4310().map_or(0, |session| session_total(after_frames(frames, session)))
 }

@@ -17,7 +17,6 @@ use frames::Frames;
 use numbers::Numbers;
 use report::{clock, finish};
 use runs::Kind;
-use script_words::Read;
 use std::env::Env;
 use std::io::Print;
 use std::time::CpuClock;
@@ -29,220 +28,89 @@ type Sorted = [u8; 2_097_152];
 
 type Taken = [u8; 400_000];
 
-fn encode(
+fn float_row<F: FnOnce(&[f32]) -> u64>(
     rt: &(impl Print + CpuClock),
-    name: &[u8],
-    beyond: f32,
+    name: &str,
+    kind: Numbers,
     timed: bool,
     random: &mut u64,
-    xs: &mut Floats,
-) {
-    numbers::fill(xs, Numbers::Setpoints(beyond), random);
+    xs: &mut [f32],
+    work: F,
+)
+    requires { F.IsAlwaysCallable work }
+{
+    numbers::fill(xs, kind, random);
     let begun = clock(rt);
-    let sum = protocol::encode(xs);
+    let sum = work(xs);
     finish(rt, name, xs.len() / 5, sum, begun, timed);
 }
 
-fn decode(
+fn frame_row<F: FnOnce(&[u8]) -> u64>(
     rt: &(impl Print + CpuClock),
-    name: &[u8],
-    timed: bool,
-    random: &mut u64,
-    frames: &mut Sorted,
-) {
-    frames::fill(frames, Frames::Feedback, random);
-    let begun = clock(rt);
-    let sum = protocol::decode(frames);
-    finish(rt, name, frames.len() / 8, sum, begun, timed);
-}
-
-fn sort(
-    rt: &(impl Print + CpuClock),
-    name: &[u8],
+    name: &str,
     kind: Frames,
     timed: bool,
     random: &mut u64,
-    frames: &mut Sorted,
-) {
+    frames: &mut [u8],
+    work: F,
+)
+    requires { F.IsAlwaysCallable work }
+{
     frames::fill(frames, kind, random);
     let begun = clock(rt);
-    let sum = protocol::sort(frames);
-    finish(rt, name, frames.len() / 8, sum, begun, timed);
-}
-
-fn matching(
-    rt: &(impl Print + CpuClock),
-    name: &[u8],
-    tolerance: f32,
-    timed: bool,
-    random: &mut u64,
-    xs: &mut Floats,
-) {
-    numbers::fill(xs, Numbers::Queries(tolerance), random);
-    let begun = clock(rt);
-    let sum = models::match_all(xs);
-    finish(rt, name, xs.len() / 5, sum, begun, timed);
-}
-
-fn suggest(
-    rt: &(impl Print + CpuClock),
-    name: &[u8],
-    timed: bool,
-    random: &mut u64,
-    xs: &mut Floats,
-) {
-    numbers::fill(xs, Numbers::Queries(0.0), random);
-    let begun = clock(rt);
-    let sum = models::suggest_all(xs);
-    finish(rt, name, xs.len() / 5, sum, begun, timed);
-}
-
-fn take_lent(
-    rt: &(impl Print + CpuClock),
-    name: &[u8],
-    kind: Frames,
-    timed: bool,
-    random: &mut u64,
-    frames: &mut Taken,
-) {
-    frames::fill(frames, kind, random);
-    let begun = clock(rt);
-    let sum = lent::take_lent(frames);
-    finish(rt, name, frames.len() / 8, sum, begun, timed);
-}
-
-fn take(
-    rt: &(impl Print + CpuClock),
-    name: &[u8],
-    kind: Frames,
-    timed: bool,
-    random: &mut u64,
-    frames: &mut Taken,
-) {
-    frames::fill(frames, kind, random);
-    let begun = clock(rt);
-    let sum = sessions::take(frames);
-    finish(rt, name, frames.len() / 8, sum, begun, timed);
-}
-
-fn run(
-    rt: &(impl Print + CpuClock),
-    name: &[u8],
-    kind: Kind,
-    timed: bool,
-    random: &mut u64,
-    frames: &mut Taken,
-) {
-    frames::fill(frames, Frames::Feedback, random);
-    let begun = clock(rt);
-    let sum = runs::run_all(kind, frames);
+    let sum = work(frames);
     finish(rt, name, frames.len() / 8, sum, begun, timed);
 }
 
 fn setpoint_rows(rt: &(impl Print + CpuClock), t: bool, r: &mut u64, xs: &mut Floats) {
-    encode(rt, b"encode MIT, within the limits", 0.0, t, r, xs);
-    encode(rt, b"encode MIT, a third beyond", 0.25, t, r, xs);
-}
-
-fn class_rows(rt: &(impl Print + CpuClock), t: bool, r: &mut u64, fs: &mut Sorted) {
-    decode(rt, b"decode feedback", t, r, fs);
-    sort(rt, b"sort replies", Frames::Replies, t, r, fs);
-    sort(rt, b"sort acks", Frames::Acks, t, r, fs);
-    sort(rt, b"sort feedback", Frames::Feedback, t, r, fs);
-}
-
-fn other_class_rows(rt: &(impl Print + CpuClock), t: bool, r: &mut u64, fs: &mut Sorted) {
-    sort(
-        rt,
-        b"sort feedback, d1 up to 0F",
-        Frames::LowFeedback,
-        t,
-        r,
-        fs,
-    );
-    sort(
-        rt,
-        b"sort unknown registers",
-        Frames::UnknownRegisters,
-        t,
-        r,
-        fs,
-    );
-    sort(rt, b"sort, a third of each class", Frames::Mixed, t, r, fs);
+    let within = Numbers::Setpoints(0.0);
+    float_row(rt, "encode MIT, within the limits", within, t, r, xs, protocol::encode);
+    let beyond = Numbers::Setpoints(0.25);
+    float_row(rt, "encode MIT, a third beyond", beyond, t, r, xs, protocol::encode);
 }
 
 fn model_rows(rt: &(impl Print + CpuClock), t: bool, r: &mut u64, xs: &mut Floats) {
-    matching(rt, b"match, tolerance 1", 1.0, t, r, xs);
-    matching(rt, b"match, tolerance 20", 20.0, t, r, xs);
-    suggest(rt, b"suggest three", t, r, xs);
+    let near = Numbers::Queries(1.0);
+    float_row(rt, "match, tolerance 1", near, t, r, xs, models::match_all);
+    let far = Numbers::Queries(20.0);
+    float_row(rt, "match, tolerance 20", far, t, r, xs, models::match_all);
+    let any = Numbers::Queries(0.0);
+    float_row(rt, "suggest three", any, t, r, xs, models::suggest_all);
 }
 
-fn lent_rows(rt: &(impl Print + CpuClock), t: bool, r: &mut u64, fs: &mut Taken) {
-    take_lent(
-        rt,
-        b"take feedback frames, lent",
-        Frames::Feedback,
-        t,
-        r,
-        fs,
-    );
-    take_lent(rt, b"take replies, lent", Frames::Replies, t, r, fs);
-    take_lent(
-        rt,
-        b"take, a third of each class, lent",
-        Frames::Mixed,
-        t,
-        r,
-        fs,
-    );
+fn frame_rows(rt: &(impl Print + CpuClock), t: bool, r: &mut u64) {
+    let mut frames: Sorted = [0; 2_097_152];
+    let fs = &mut frames;
+    frame_row(rt, "decode feedback", Frames::Feedback, t, r, fs, protocol::decode);
+    frame_row(rt, "sort replies", Frames::Replies, t, r, fs, protocol::sort);
+    frame_row(rt, "sort acks", Frames::Acks, t, r, fs, protocol::sort);
+    frame_row(rt, "sort feedback", Frames::Feedback, t, r, fs, protocol::sort);
+    let low = Frames::LowFeedback;
+    frame_row(rt, "sort feedback, d1 up to 0F", low, t, r, fs, protocol::sort);
+    let unknown = Frames::UnknownRegisters;
+    frame_row(rt, "sort unknown registers", unknown, t, r, fs, protocol::sort);
+    frame_row(rt, "sort, a third of each class", Frames::Mixed, t, r, fs, protocol::sort);
 }
 
-fn value_rows(rt: &(impl Print + CpuClock), t: bool, r: &mut u64, fs: &mut Taken) {
-    take(
-        rt,
-        b"take feedback frames, by value",
-        Frames::Feedback,
-        t,
-        r,
-        fs,
-    );
-    take(rt, b"take replies, by value", Frames::Replies, t, r, fs);
-    take(
-        rt,
-        b"take, a third of each class, by value",
-        Frames::Mixed,
-        t,
-        r,
-        fs,
-    );
-}
-
-fn run_rows(rt: &(impl Print + CpuClock), t: bool, r: &mut u64, fs: &mut Taken) {
-    run(rt, b"a register read", Kind::Read, t, r, fs);
-    run(rt, b"a confirmed write", Kind::Write, t, r, fs);
-    run(rt, b"a mode switch", Kind::Switch, t, r, fs);
+fn session_rows(rt: &(impl Print + CpuClock), t: bool, r: &mut u64) {
+    let mut frames: Taken = [0; 400_000];
+    let fs = &mut frames;
+    frame_row(rt, "take feedback frames, lent", Frames::Feedback, t, r, fs, lent::take_lent);
+    frame_row(rt, "take replies, lent", Frames::Replies, t, r, fs, lent::take_lent);
+    frame_row(rt, "take, a third of each class, lent", Frames::Mixed, t, r, fs, lent::take_lent);
+    frame_row(rt, "take feedback frames, by value", Frames::Feedback, t, r, fs, sessions::take);
+    frame_row(rt, "take replies, by value", Frames::Replies, t, r, fs, sessions::take);
+    frame_row(rt, "take, a third of each class, by value", Frames::Mixed, t, r, fs, sessions::take);
+    frame_row(rt, "a register read", Frames::Feedback, t, r, fs, |frames: &[u8]| runs::run_all(Kind::Read, frames));
+    frame_row(rt, "a confirmed write", Frames::Feedback, t, r, fs, |frames: &[u8]| runs::run_all(Kind::Write, frames));
+    frame_row(rt, "a mode switch", Frames::Feedback, t, r, fs, |frames: &[u8]| runs::run_all(Kind::Switch, frames));
 }
 
 // The seed that the first argument is, if there is one.
-fn argument(rt: &impl Env) -> Read {
+fn argument(rt: &impl Env) -> Option<u64> {
     let mut word = [0u8; 4096];
-    match rt.arg(1, &mut word) {
-        Ok(len) => script_words::number(&word[..len]),
-        Err(_) => Read::Bad,
-    }
-}
-
-fn frame_rows(rt: &(impl Print + CpuClock), timed: bool, random: &mut u64) {
-    let mut frames: Sorted = [0; 2_097_152];
-    class_rows(rt, timed, random, &mut frames);
-    other_class_rows(rt, timed, random, &mut frames);
-}
-
-fn session_rows(rt: &(impl Print + CpuClock), timed: bool, random: &mut u64) {
-    let mut frames: Taken = [0; 400_000];
-    lent_rows(rt, timed, random, &mut frames);
-    value_rows(rt, timed, random, &mut frames);
-    run_rows(rt, timed, random, &mut frames);
+    let len = rt.arg(1, &mut word).ok()?;
+    script_words::number(&word[..len])
 }
 
 fn rows(rt: &(impl Print + CpuClock), seed: u64, timed: bool) {
@@ -255,9 +123,8 @@ fn rows(rt: &(impl Print + CpuClock), seed: u64, timed: bool) {
 }
 
 fn main(rt: HostRuntime) {
-    let seed = argument(&rt);
-    match seed {
-        Read::Value(seed) => rows(&rt, seed, true),
-        Read::Bad => rows(&rt, 0, false),
+    match argument(&rt) {
+        Some(seed) => rows(&rt, seed, true),
+        None => rows(&rt, 0, false),
     }
 }

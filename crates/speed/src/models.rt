@@ -3,7 +3,7 @@ ghost use Rattle.std.specs.Prelude.{◌+◌, ◌<◌, ◌≤◌, length};
 
 use crate::sums::mixed;
 use model_damiao::damiao_models;
-use model_list::{ModelList, Names, places};
+use model_list::{ModelList, Names};
 use model_match::match_models_by_limits;
 use model_query::Query;
 use model_suggest::suggest_models_by_limits;
@@ -16,7 +16,7 @@ fn wide(byte: u8) -> u64
 }
 
 // The length and the first four bytes of a name.
-fn code(name: Name) -> u64 {
+fn code(name: &Name) -> u64 {
     let bytes = name.bytes;
     wide(name.len)
         + wide(bytes[0]) * 0x100
@@ -25,11 +25,9 @@ fn code(name: Name) -> u64 {
         + wide(bytes[3]) * 0x1_0000_0000
 }
 
-fn names_total(names: Names) -> u64 {
+fn names_total(names: &Names) -> u64 {
     let mut sum: u64 = 0;
-    let count = places(names.count);
-    for i in 0..count {
-        let name = names.names[i];
+    for name in names.as_slice() {
         sum = mixed(sum, code(name));
     }
     sum
@@ -45,31 +43,23 @@ fn query_at(xs: &[f32], at: usize) -> Query
     }
 }
 
-fn matched(list: ModelList, xs: &[f32], at: usize) -> Names
-    requires { at + 5 ≤ length xs.now }
-{
-    let listing = match_models_by_limits(list, query_at(xs, at), xs[at + 3]);
-    listing.names
-}
-
-fn suggested(list: ModelList, xs: &[f32], at: usize) -> Names
-    requires { at + 5 ≤ length xs.now }
-{
-    let listing = suggest_models_by_limits(list, query_at(xs, at), 3);
-    listing.names
-}
-
 // A query's names are made and read where nothing goes round, so that the compiler need not copy them.
-fn matched_total(list: ModelList, xs: &[f32], at: usize) -> u64
+fn matched_total(list: &ModelList, xs: &[f32], at: usize) -> u64
     requires { at + 5 ≤ length xs.now }
 {
-    names_total(matched(list, xs, at))
+    match match_models_by_limits(list, query_at(xs, at), xs[at + 3]) {
+        Ok(names) => names_total(&names),
+        Err(_) => 0,
+    }
 }
 
-fn suggested_total(list: ModelList, xs: &[f32], at: usize) -> u64
+fn suggested_total(list: &ModelList, xs: &[f32], at: usize) -> u64
     requires { at + 5 ≤ length xs.now }
 {
-    names_total(suggested(list, xs, at))
+    match suggest_models_by_limits(list, query_at(xs, at), 3) {
+        Ok(names) => names_total(&names),
+        Err(_) => 0,
+    }
 }
 
 pub(crate) fn match_all(xs: &[f32]) -> u64 {
@@ -77,7 +67,7 @@ pub(crate) fn match_all(xs: &[f32]) -> u64 {
     let mut sum: u64 = 0;
     let count = xs.len() / 5;
     for k in 0..count {
-        sum = mixed(sum, matched_total(list, xs, k * 5));
+        sum = mixed(sum, matched_total(&list, xs, k * 5));
     }
     sum
 }
@@ -87,7 +77,7 @@ pub(crate) fn suggest_all(xs: &[f32]) -> u64 {
     let mut sum: u64 = 0;
     let count = xs.len() / 5;
     for k in 0..count {
-        sum = mixed(sum, suggested_total(list, xs, k * 5));
+        sum = mixed(sum, suggested_total(&list, xs, k * 5));
     }
     sum
 }

@@ -1,7 +1,8 @@
 // Inputs of five floats each, random.
 use crate::random::{between, next};
 use model_damiao::damiao_models;
-use model_list::{MODEL_PLACES, Maxima};
+use model_list::MODEL_PLACES;
+use motor_core::model::Maxima;
 
 // Setpoints that go beyond the limits of model 4310, and those of kp and kd, by so much of their span
 // at either end; or queries near a model's limits, with a tolerance, and a number that is not used.
@@ -84,10 +85,8 @@ fn range_of(kind: Numbers, column: usize, model: Maxima) -> Range {
 }
 
 fn any_model(random: &mut u64) -> Maxima {
-    let list = damiao_models();
     let place = (next(random) % (MODEL_PLACES as u64)) as usize;
-    let spec = list.models[place];
-    spec.maxima
+    damiao_models().models[place].maxima
 }
 
 // An input's first number goes by a new model.

@@ -3,22 +3,28 @@ ghost use Rattle.std.specs.Prelude.{◌+◌, ◌≤◌, length};
 
 use crate::frames::data_at;
 use crate::sums::{float_bits, mixed};
-use motor_core::model::{LimitCheck, PvTLimits};
+use motor_core::model::{Maxima, PvTLimits, from_maxima};
 use protocol_feedback::{SensorFeedback, decode_sensor_feedback};
 use protocol_received::{FrameClass, frame_class};
-use protocol_setpoint::encode_mit_cmd;
+use protocol_setpoint::{MitSetpoint, encode_mit_cmd};
+
+const MAXIMA_4310: Maxima = Maxima {
+    p_max: 12.5,
+    v_max: 30.0,
+    t_max: 10.0,
+};
 
 fn setpoint_data(xs: &[f32], at: usize, limits: PvTLimits) -> u64
     requires { at + 5 ≤ length xs.now }
 {
-    encode_mit_cmd(
-        xs[at],
-        xs[at + 1],
-        xs[at + 2],
-        xs[at + 3],
-        xs[at + 4],
-        limits,
-    )
+    let setpoint = MitSetpoint {
+        target_position: xs[at],
+        target_velocity: xs[at + 1],
+        stiffness: xs[at + 2],
+        damping: xs[at + 3],
+        feedforward_torque: xs[at + 4],
+    };
+    encode_mit_cmd(setpoint, limits)
 }
 
 fn encode_with(limits: PvTLimits, xs: &[f32]) -> u64 {
@@ -31,19 +37,11 @@ fn encode_with(limits: PvTLimits, xs: &[f32]) -> u64 {
 }
 
 pub(crate) fn encode(xs: &[f32]) -> u64 {
-    let made = motor_core::model::from_maxima(12.5, 30.0, 10.0);
-    match made {
-        LimitCheck::Accepted(limits) => encode_with(limits, xs),
-        LimitCheck::Refused(_) => 0,
-    }
-}
-
-fn small(number: u8) -> f32 {
-    number as f32
+    from_maxima(MAXIMA_4310).map_or(0, |limits| encode_with(limits, xs))
 }
 
 fn reading(f: SensorFeedback) -> f32 {
-    small(f.can_id) + small(f.status_code) + f.pos + f.vel + f.torq + f.t_mos + f.t_rotor
+    f32::from(f.can_id) + f32::from(f.status_code) + f.pos + f.vel + f.torq + f.t_mos + f.t_rotor
 }
 
 fn decode_with(limits: PvTLimits, frames: &[u8]) -> u64 {
@@ -60,11 +58,7 @@ fn decode_with(limits: PvTLimits, frames: &[u8]) -> u64 {
 }
 
 pub(crate) fn decode(frames: &[u8]) -> u64 {
-    let made = motor_core::model::from_maxima(12.5, 30.0, 10.0);
-    match made {
-        LimitCheck::Accepted(limits) => decode_with(limits, frames),
-        LimitCheck::Refused(_) => 0,
-    }
+    from_maxima(MAXIMA_4310).map_or(0, |limits| decode_with(limits, frames))
 }
 
 fn class_number(class: FrameClass) -> u64 {

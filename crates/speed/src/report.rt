@@ -17,10 +17,6 @@ pub(crate) fn clock(rt: &impl CpuClock) -> u64 {
     }
 }
 
-fn text(rt: &impl Print, words: &[u8]) {
-    let _ = rt.write_all(words);
-}
-
 fn nanoseconds(begun: u64, ended: u64) -> u64 {
     let took = std::num::wrapping_sub_u64(ended, begun);
     if took < 1_000_000_000_000 {
@@ -31,18 +27,17 @@ fn nanoseconds(begun: u64, ended: u64) -> u64 {
 
 pub(crate) fn finish(
     rt: &(impl Print + CpuClock),
-    name: &[u8],
+    name: &str,
     calls: usize,
     sum: u64,
     begun: u64,
     timed: bool,
 ) {
     let ended = clock(rt);
-    text(rt, name);
-    let _ = print!(rt; "\t{calls}\t{sum:016x}");
+    let _ = print!(rt; "{name}\t{calls}\t{sum:016x}");
     if timed {
         let took = nanoseconds(begun, ended);
         let _ = print!(rt; "\t{took}");
     }
-    text(rt, b"\n");
+    let _ = println!(rt);
 }

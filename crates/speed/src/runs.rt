@@ -1,16 +1,16 @@
 // A session reads register 10, writes it or switches the mode, which that register is, once for each
 // frame. The motor answers every frame that is sent at once. The checksum has what the calls tell and
 // all that a frame may change.
-ghost use Rattle.std.specs.Prelude.{◌<◌};
-
 use crate::frames::data_at;
 use crate::sessions::{frame_of, session_4310, session_total};
 use crate::sums::mixed;
 use motor_core::bus::CanFrame;
+use motor_core::error::Refusal;
 use protocol_frame::data_bytes;
 use registers::value_bits;
-use run_machine::RunResult;
-use run_want::{Answer, SendResult};
+use run_machine::{Outcome, RunResult};
+use run_want::Answer;
+use session::Session;
 use session_answer::{AfterCall, answer_run};
 use session_begin::{ensure_control_mode, get_register_u32, write_register_u32};
 use session_lent::take_frame;
@@ -39,26 +39,16 @@ struct Line {
     sum: u64,
 }
 
-fn wide(byte: u8) -> u32
-    ensures { result < 256 }
-{
-    byte as u32
-}
-
 // The value that a frame carries, the lowest byte first.
 fn value_in(data: [u8; 8]) -> u32 {
-    wide(data[4]) + wide(data[5]) * 0x100 + wide(data[6]) * 0x1_0000 + wide(data[7]) * 0x100_0000
+    u32::from_le_bytes([data[4], data[5], data[6], data[7]])
 }
 
 // The motor sends every frame back; a read comes back with the value.
 fn motor_frame(value: u32, data: u64) -> CanFrame {
     let mut bytes = data_bytes(data);
     if bytes[2] == 0x33 {
-        let held = data_bytes(value as u64);
-        bytes[4] = held[7];
-        bytes[5] = held[6];
-        bytes[6] = held[5];
-        bytes[7] = held[4];
+        bytes[4..].copy_from_slice(&value.to_le_bytes());
     }
     frame_of(bytes)
 }
@@ -75,93 +65,73 @@ fn value_after(value: u32, data: u64) -> u32 {
 
 fn result_number(res: RunResult) -> u64 {
     match res {
-        RunResult::Done => 1,
-        RunResult::Value(value) => value_bits(value) as u64,
-        RunResult::State(_) => 2,
-        RunResult::NoState => 3,
-        RunResult::Failed(_) => 4,
+        Ok(Outcome::Done) => 1,
+        Ok(Outcome::Value(value)) => u64::from(value_bits(value)),
+        Ok(Outcome::State(Some(_))) => 2,
+        Ok(Outcome::State(None)) => 3,
+        Err(_) => 4,
     }
 }
 
 fn want_total(sum: u64, want: Wanted) -> u64 {
     match want {
         Wanted::Clock => sum,
-        Wanted::Send(id, data) => mixed(mixed(sum, id as u64), data),
+        Wanted::Send(command) => mixed(
+            mixed(sum, u64::from(command.arbitration_id)),
+            command.data,
+        ),
         Wanted::Sleep(length) => mixed(sum, length.0),
     }
 }
 
-fn told_total(sum: u64, told: Told) -> u64 {
+fn told_total(sum: u64, told: Result<Told, Refusal>) -> u64 {
     match told {
-        Told::Want(want) => want_total(sum, want),
-        Told::Result(result) => mixed(sum, result_number(result)),
-        Told::Refused(number) => mixed(sum, number as u64),
+        Ok(Told::Want(want)) => want_total(sum, want),
+        Ok(Told::Result(result)) => mixed(sum, result_number(result)),
+        Err(refusal) => mixed(sum, u64::from(u8::from(refusal))),
     }
 }
 
 fn told(turn: AfterCall, value: u32, now: Instant, sum: u64) -> Line {
-    let told = turn.told;
     Line {
         turn,
         value,
         now,
-        sum: told_total(sum, told),
+        sum: told_total(sum, turn.told),
     }
 }
 
 fn clock_read(line: Line) -> Line {
-    let turn = line.turn;
-    let session = turn.session;
-    let now = line.now;
-    let after = answer_run(session, Answer::Reading(now));
-    told(after, line.value, now, line.sum)
+    let after = answer_run(line.turn.session, Answer::Reading(line.now));
+    told(after, line.value, line.now, line.sum)
 }
 
 fn sent(line: Line, data: u64) -> Line {
-    let turn = line.turn;
-    let session = turn.session;
-    let now = line.now;
-    let taking = take_frame(session, motor_frame(line.value, data), now);
-    let head = taking.session;
-    let after = answer_run(head, Answer::Send(SendResult::Sent));
-    told(after, value_after(line.value, data), now, line.sum)
+    let frame = motor_frame(line.value, data);
+    let taking = take_frame(line.turn.session, frame, line.now);
+    let after = answer_run(taking.session, Answer::Send(Ok(())));
+    told(after, value_after(line.value, data), line.now, line.sum)
 }
 
 fn slept(line: Line, length: Duration) -> Line {
-    let turn = line.turn;
-    let session = turn.session;
-    let now = line.now;
-    let later = Instant(std::num::wrapping_add_u64(now.0, length.0));
-    let after = answer_run(session, Answer::Slept);
+    let later = Instant(line.now.0.wrapping_add(length.0));
+    let after = answer_run(line.turn.session, Answer::Slept);
     told(after, line.value, later, line.sum)
-}
-
-fn last_told(line: Line) -> Told {
-    let turn = line.turn;
-    turn.told
 }
 
 // Does what is wanted, if anything is, and says so.
 fn answered(line: Line) -> Line {
-    let told = last_told(line);
-    match told {
-        Told::Want(want) => done(line, want),
+    match line.turn.told {
+        Ok(Told::Want(Wanted::Clock)) => clock_read(line),
+        Ok(Told::Want(Wanted::Send(command))) => sent(line, command.data),
+        Ok(Told::Want(Wanted::Sleep(length))) => slept(line, length),
         _ => line,
     }
 }
 
-fn done(line: Line, want: Wanted) -> Line {
-    match want {
-        Wanted::Clock => clock_read(line),
-        Wanted::Send(_, data) => sent(line, data),
-        Wanted::Sleep(length) => slept(line, length),
-    }
-}
-
 // A run whose frames are answered at once is over after so many answers.
-fn after_answers(line: Line, count: u64) -> Line {
-    let mut line = line;
-    for k in 0..count {
+fn after_answers(mut line: Line, count: u64) -> Line {
+    for _ in 0..count {
         line = answered(line);
     }
     line
@@ -171,11 +141,10 @@ fn after_answers(line: Line, count: u64) -> Line {
 // 2 if k is even, else to 1. The readings of a read or a write are its place; of switches the clock
 // stands but for sleeps.
 fn one_run(kind: Kind, line: Line, data: [u8; 8], k: u64) -> Line {
-    let turn = line.turn;
-    let session = turn.session;
-    let now = line.now;
-    let value = line.value;
-    let sum = line.sum;
+    let session = line.turn.session;
+    let Line {
+        value, now, sum, ..
+    } = line;
     match kind {
         Kind::Read => {
             let begun = get_register_u32(session, 10, READ_TIMEOUT);
@@ -192,31 +161,31 @@ fn one_run(kind: Kind, line: Line, data: [u8; 8], k: u64) -> Line {
     }
 }
 
-fn after_runs(kind: Kind, line: Line, frames: &[u8]) -> Line {
-    let mut line = line;
-    let count = frames.len() / 8;
-    for k in 0..count {
+fn after_runs(kind: Kind, mut line: Line, frames: &[u8]) -> Line {
+    for k in 0..frames.len() / 8 {
         line = one_run(kind, line, data_at(frames, k * 8), k as u64);
     }
     line
 }
 
 // The motor is in mode 1.
-pub(crate) fn run_all(kind: Kind, frames: &[u8]) -> u64 {
-    let line = after_runs(
-        kind,
-        Line {
-            turn: AfterCall {
-                session: session_4310(),
-                told: Told::Want(Wanted::Clock),
-            },
-            value: 1,
-            now: Instant(0),
-            sum: 0,
+fn at_first(session: Session) -> Line {
+    Line {
+        turn: AfterCall {
+            session,
+            told: Ok(Told::Want(Wanted::Clock)),
         },
-        frames,
-    );
-    let turn = line.turn;
-    let session = turn.session;
-    mixed(line.sum, session_total(session))
+        value: 1,
+        now: Instant(0),
+        sum: 0,
+    }
+}
+
+fn runs_total(kind: Kind, session: Session, frames: &[u8]) -> u64 {
+    let line = after_runs(kind, at_first(session), frames);
+    mixed(line.sum, session_total(line.turn.session))
+}
+
+pub(crate) fn run_all(kind: Kind, frames: &[u8]) -> u64 {
+    session_4310().map_or(0, |session| runs_total(kind, session, frames))
 }

@@ -1,28 +1,23 @@
 // A session of motor 1, model 4310, takes frames. The checksum has everything that a frame may change.
 use crate::frames::data_at;
 use crate::sums::{float_bits, mixed};
-use model_list::Maxima;
 use motor_core::bus::CanFrame;
-use protocol_status::StatusName;
+use motor_core::model::Maxima;
 use registers::{RegisterValue, holds_u32, value_bits};
 use session::Session;
 use session::start::from_limits;
 use session_lent::take_frame;
-use state_cache::{Entry, Slot};
-use state_feedback::{Latest, MotorFeedbackState};
+use state_cache::Entry;
+use state_feedback::{FeedbackSnapshot, MotorFeedbackState};
 use time::Instant;
 
-pub(crate) fn session_4310() -> Session {
-    let start = from_limits(
-        1,
-        0x11,
-        Maxima {
-            p_max: 12.5,
-            v_max: 30.0,
-            t_max: 10.0,
-        },
-    );
-    start.session
+pub(crate) fn session_4310() -> Option<Session> {
+    let maxima = Maxima {
+        p_max: 12.5,
+        v_max: 30.0,
+        t_max: 10.0,
+    };
+    from_limits(1, 0x11, maxima).ok()
 }
 
 pub(crate) fn frame_of(data: [u8; 8]) -> CanFrame {
@@ -45,63 +40,37 @@ pub(crate) fn frame_number(frames: &[u8], k: usize) -> CanFrame {
 
 // A frame's reading is its place.
 pub(crate) fn take(frames: &[u8]) -> u64 {
-    let mut session = session_4310();
-    let count = frames.len() / 8;
-    for k in 0..count {
+    session_4310().map_or(0, |session| session_total(after_frames(frames, session)))
+}
+
+fn after_frames(frames: &[u8], mut session: Session) -> Session {
+    for k in 0..frames.len() / 8 {
         let frame = frame_of(data_at(frames, k * 8));
-        let taking = take_frame(session, frame, Instant(k as u64));
-        session = taking.session;
+        session = take_frame(session, frame, Instant(k as u64)).session;
     }
-    session_total(session)
+    session
 }
 
 pub(crate) fn session_total(session: Session) -> u64 {
-    let head = session.head;
-    let feedback = head.feedback;
-    let latest = feedback.latest;
-    let last = head.last;
-    let replies = session.replies;
-    let acks = session.acks;
-    let counted = mixed(latest_total(latest), feedback.sequence);
-    let timed = mixed(counted, last.0);
-    let replied = mixed(timed, slots_total(replies));
-    mixed(replied, slots_total(acks))
+    let feedback = session.head.feedback;
+    let latest = feedback.latest.map_or(0, latest_total);
+    let counted = mixed(latest, feedback.sequence);
+    let timed = mixed(counted, session.head.last.0);
+    let replied = mixed(timed, entries_total(&session.replies));
+    mixed(replied, entries_total(&session.acks))
 }
 
-fn latest_total(latest: Latest) -> u64 {
-    match latest {
-        Latest::None => 0,
-        Latest::Snapshot(snapshot) => {
-            let state = snapshot.state;
-            let at = snapshot.received_at;
-            let stamped = mixed(snapshot.sequence, at.0);
-            let sent = mixed(stamped, sender_total(state));
-            mixed(sent, floats_total(state))
-        }
-    }
+fn latest_total(snapshot: FeedbackSnapshot) -> u64 {
+    let stamped = mixed(snapshot.sequence, snapshot.received_at.0);
+    let sent = mixed(stamped, sender_total(snapshot.state));
+    mixed(sent, floats_total(snapshot.state))
 }
 
 // Who sent it, and the status by number and name.
 fn sender_total(s: MotorFeedbackState) -> u64 {
-    let name = s.status_name;
-    let ids = mixed(s.can_id as u64, s.arbitration_id as u64);
-    let status = mixed(ids, s.status_code as u64);
-    mixed(status, name_number(name))
-}
-
-fn name_number(name: StatusName) -> u64 {
-    match name {
-        StatusName::Disabled => 0,
-        StatusName::Enabled => 1,
-        StatusName::OverVoltage => 2,
-        StatusName::UnderVoltage => 3,
-        StatusName::OverCurrent => 4,
-        StatusName::MosOverTemp => 5,
-        StatusName::RotorOverTemp => 6,
-        StatusName::LostComm => 7,
-        StatusName::Overload => 8,
-        StatusName::Unknown => 9,
-    }
+    let ids = mixed(u64::from(s.can_id), u64::from(s.arbitration_id));
+    let status = mixed(ids, u64::from(s.status_code));
+    mixed(status, s.status_name as u64)
 }
 
 fn floats_total(s: MotorFeedbackState) -> u64 {
@@ -111,12 +80,10 @@ fn floats_total(s: MotorFeedbackState) -> u64 {
     mixed(warm, float_bits(s.t_rotor))
 }
 
-fn slots_total(slots: [Slot; 82]) -> u64 {
+fn entries_total(entries: &[Entry]) -> u64 {
     let mut sum: u64 = 0;
-    for i in 0..82 {
-        let slot = slots[i];
-        let entry = slot.entry;
-        sum = mixed(sum, entry_total(entry));
+    for entry in entries {
+        sum = mixed(sum, entry_total(*entry));
     }
     sum
 }
@@ -125,7 +92,7 @@ fn entry_total(entry: Entry) -> u64 {
     match entry {
         Entry::Empty => 0,
         Entry::Held(value, stamp) => {
-            let valued = mixed(type_number(value), value_bits(value) as u64);
+            let valued = mixed(type_number(value), u64::from(value_bits(value)));
             mixed(valued, stamp.0)
         }
     }
