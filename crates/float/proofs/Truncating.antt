@@ -67,9 +67,6 @@ top_field : (t : ℕ) → t ≡ 0 → to_unsigned 32 (of_fields binary32 false 2
 unfolding of_fields to_unsigned
 top_field t e = ap (λ (k : ℕ). to_unsigned 32 (cond (eqb k 0) (inf false) nan)) e
 
-pub low_value : (b : ℕ) → b < 2147483648 → b / 8388608 ≡ 0 → HasValue (of_bits binary32 b) false (b % 8388608 * 1) (2 ^ 149)
-low_value b u e = subst (λ (v : Float). HasValue v false (b % 8388608 * 1) (2 ^ 149)) (sym (plain b u ∙ ap (λ (x : ℕ). of_fields binary32 false x (b % 8388608)) e)) (low_field (b % 8388608))
-
 -- ---- the digits, and the number in units of 2 ^ -149, of a pattern with the exponent's field from 1 to 254
 abbrev pub digits : ℕ → ℕ
 digits b = b % 8388608 + 8388608

@@ -17,17 +17,17 @@ pub fn of_bits(bits: F32Bits) -> f32
 {
     let b = bits.0;
     if is_nan_pattern(b) {
-        return 0.0 / 0.0;
+        return f32::NAN;
     }
     f32::from_bits(b)
 }
 
 // Rust's `f32::to_bits`, and 7FC00000 for the NaN.
-#[tactic(auto, using(crate::proofs::Nans::no_nan))]
+#[tactic(auto, using(crate::proofs::Nans::nan_to_bits))]
 pub fn to_bits(x: f32) -> F32Bits
     ensures { result.0 ≡ Ieee.to_bits binary32 x }
 {
-    if x != x {
+    if x.is_nan() {
         return F32Bits(0x7fc0_0000);
     }
     F32Bits(f32::to_bits(x))
@@ -40,7 +40,7 @@ pub fn is_nan_pattern(bits: u32) -> bool
     bits % 0x8000_0000 > 0x7f80_0000
 }
 
-// Rust's `x.clamp(min, max)` where min is not above max. A NaN passes through.
+// Rust's `x.clamp(min, max)` where min is not above max, which std's asks for. A NaN passes through.
 #[tactic(auto, unfolding(crate::specs::Float::clip))]
 pub fn clamp(x: f32, min: f32, max: f32) -> f32
     ensures { result ≡ clip x min max }
@@ -54,15 +54,16 @@ fn fraction_digits(exponent: u32) -> u32
     requires { exponent ≤ 150 }
     ensures { result ≡ min (150 - exponent) 24 }
 {
-    if exponent < 126 { 24 } else { 150 - exponent }
+    (150 - exponent).min(24)
 }
 
 // Rust's `x as u32`: the fraction is dropped, what is out of range goes to the nearest end, and a
 // NaN gives 0.
+// By the bits: std's cast goes by way of an `f64` and takes longer.
 pub fn as_u32(x: f32) -> u32
     ensures { result ≡ Ieee.to_unsigned 32 x }
 {
-    if x != x {
+    if x.is_nan() {
         return 0;
     }
     let bits: u32 = f32::to_bits(x);
@@ -85,6 +86,5 @@ pub fn as_u32(x: f32) -> u32
 pub fn as_u16(x: f32) -> u16
     ensures { result ≡ Ieee.to_unsigned 16 x }
 {
-    let wide = as_u32(x);
-    if wide < 0x1_0000 { wide as u16 } else { 0xffff }
+    as_u32(x).min(0xffff) as u16
 }

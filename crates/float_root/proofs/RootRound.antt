@@ -7,10 +7,10 @@ use native.Mathlib.Omega.{arith}
 use mathlib.Core.Bool.{Bool, true, false, not, cond}
 use lib.Dec.{T, leb, leb→le, nleb→lt, lit≤}
 use lib.Pow.{pow-add, pow_pos, pow_mono, pow-lt, high, low}
-use lib.Ieee.{Float, nan, inf, fin, binary32, prec, hid, top, down, size, nearest, round, fits, is_nan, to_bits, of_bits, nan_bits}
+use lib.Ieee.{Float, nan, inf, fin, binary32, prec, hid, top, down, size, nearest, round, fits, to_bits, of_bits}
 use lib.Ieee.Digits.{size-lt, size-le}
 use lib.Ieee.Fits.{down_pos, round-fits}
-use lib.Ieee.Bits.{of_bits-to_bits, of_bits-fits, nan_bits_is}
+use lib.Ieee.Bits.{of_bits-to_bits, of_bits-fits}
 use lib.Ieee.Exact.{HasValue}
 use lib.Ieee.Nearest.{closest, closest_same, div_same}
 use lib.Ieee.Order.{drop}
@@ -73,15 +73,6 @@ pattern_value k y lo hi K =
         let e : y ≡ 16777216 = le_antisymm hi (a tt) in
         ap (λ (q : ℕ). q * 2 ^ ((k * 8388608 + y) / 8388608 - 1)) (rest' k y e) ∙ ap (λ (x : ℕ). 8388608 * 2 ^ x) (field' k y e) ∙ ap (λ (x : ℕ). 8388608 * x) (pow-suc 2 k) ∙ twice y (2 ^ k) e
     go false a c = ap (λ (q : ℕ). q * 2 ^ ((k * 8388608 + y) / 8388608 - 1)) (rest k y lo (c tt)) ∙ ap (λ (x : ℕ). y * 2 ^ x) (field k y lo (c tt))
-
-has_value : (z : Float) (a c : ℕ) → HasValue z false a c → T (not (is_nan z))
-unfolding is_nan
-has_value nan a c h = absurd h
-has_value (inf s) a c h = tt
-has_value (fin s m e) a c h = tt
-
-pub pattern_no_nan : (k y : ℕ) → 2 ^ 23 ≤ y → y ≤ 2 ^ 24 → k < 250 → T (not (nan_bits binary32 (k * 8388608 + y)))
-pattern_no_nan k y lo hi K = subst (λ (b : Bool). T (not b)) (sym (nan_bits_is binary32 (k * 8388608 + y))) (has_value (of_bits binary32 (k * 8388608 + y)) (y * 2 ^ k) (2 ^ 149) (pattern_value k y lo hi K))
 
 -- ---- s * p + r, with p = 2 ^ k and r below p, rounded: by r against the half of p
 closest_is : (s k r : ℕ) → r < 2 ^ k → closest (s * 2 ^ k + r) (2 ^ k) ≡ nearest s (compare (r * 2) (2 ^ k))

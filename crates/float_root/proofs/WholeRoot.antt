@@ -2,7 +2,7 @@
 use mathlib.Core.Path.{◌≡◌, sym, subst}
 use mathlib.Core.Logic.{◌⊎◌, inl, inr}
 use Prim.Native.Nat.{ℕ, zero, suc, ◌+◌, ◌*◌, ◌≤◌, ◌<◌, zero-le}
-use native.Mathlib.Nat.{le_trans, le_of_eq, le_antisymm, le_of_suc-le-suc, lt_of_not-le, not-le_of_lt, eq-or-lt_of_le, mul-le-mul, mul-le-mul_left, mul-one, zero-lt-suc}
+use native.Mathlib.Nat.{le_trans, le_of_eq, le_of_suc-le-suc, lt_of_not-le, not-le_of_lt, eq-or-lt_of_le, mul-le-mul, mul-le-mul_left, mul-one, zero-lt-suc}
 use native.Mathlib.Numerals.{add-one}
 use mathlib.Core.Bool.{Bool, true, false, cond}
 use lib.Dec.{T, leb, leb→le, le→leb}
@@ -52,9 +52,6 @@ root_ge n s h = greatest_above (λ (x : ℕ). leb (x * x) n) n s (le_trans (le_s
 
 pub root_lt : (n s : ℕ) → n < s * s → whole_root n < s
 root_lt n s h = lt_of_not-le (λ (g : s ≤ whole_root n). not-le_of_lt h (le_trans (sq_le g) (root_sq_le n)))
-
-pub whole_root_is : (n s : ℕ) → s * s ≤ n → n < (s + 1) * (s + 1) → whole_root n ≡ s
-whole_root_is n s lo hi = le_antisymm (le_of_suc-le-suc (subst (λ (x : ℕ). whole_root n < x) (add-one s) (root_lt n (s + 1) hi))) (root_ge n s lo)
 
 pub lt_next_sq : (n : ℕ) → n < (whole_root n + 1) * (whole_root n + 1)
 lt_next_sq n = lt_of_not-le (λ (g : (whole_root n + 1) * (whole_root n + 1) ≤ n). not-le_of_lt (le_of_eq (sym (add-one (whole_root n)))) (root_ge n (whole_root n + 1) g))

@@ -9,6 +9,7 @@ use motor_core::model::Maxima;
 use motor_core::name::Name;
 
 // A name, padded to fifteen bytes, its length, and the maxima of position, velocity and torque.
+// Padded by hand: a constant calls no function.
 macro_rules! model {
     ($name:literal, $len:literal, $p_max:literal, $v_max:literal, $t_max:literal) => {
         MotorModelSpec {
