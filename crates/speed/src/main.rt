@@ -17,7 +17,6 @@ use frames::Frames;
 use numbers::Numbers;
 use report::{clock, finish};
 use runs::Kind;
-use script_words::Read;
 use std::env::Env;
 use std::io::Print;
 use std::time::CpuClock;
@@ -224,11 +223,11 @@ fn run_rows(rt: &(impl Print + CpuClock), t: bool, r: &mut u64, fs: &mut Taken) 
 }
 
 // The seed that the first argument is, if there is one.
-fn argument(rt: &impl Env) -> Read {
+fn argument(rt: &impl Env) -> Option<u64> {
     let mut word = [0u8; 4096];
     match rt.arg(1, &mut word) {
         Ok(len) => script_words::number(&word[..len]),
-        Err(_) => Read::Bad,
+        Err(_) => None,
     }
 }
 
@@ -255,9 +254,8 @@ fn rows(rt: &(impl Print + CpuClock), seed: u64, timed: bool) {
 }
 
 fn main(rt: HostRuntime) {
-    let seed = argument(&rt);
-    match seed {
-        Read::Value(seed) => rows(&rt, seed, true),
-        Read::Bad => rows(&rt, 0, false),
+    match argument(&rt) {
+        Some(seed) => rows(&rt, seed, true),
+        None => rows(&rt, 0, false),
     }
 }
