@@ -1,18 +1,21 @@
 // The answer to a call that needs no session, put into the output.
 use crate::{commands, listing, reports};
-use script::{Call, calls};
-use text::put;
-
-// In the place of a call on the session, where none has started.
-pub(crate) const NO_SESSION: u64 = 253;
+use script::{Call, CallName};
 
 pub(crate) fn answer(call: Call, output: &mut [u8], to: usize) -> usize {
-    let code = call.code;
-    match code {
-        calls::MIT..=calls::CLEAR => commands::put_command(commands::made(call), output, to),
-        calls::MATCH | calls::SUGGEST => listing::answer(call, output, to),
-        calls::BAD => put(output, to, b"bad line"),
-        NO_SESSION => put(output, to, b"no session"),
+    match call.name {
+        CallName::Mit
+        | CallName::PosVel
+        | CallName::Vel
+        | CallName::ForcePos
+        | CallName::ReadReg
+        | CallName::WriteReg
+        | CallName::StoreParams
+        | CallName::FeedbackRequest
+        | CallName::Disable
+        | CallName::Zero
+        | CallName::Clear => commands::put_command(commands::made(call), output, to),
+        CallName::Match | CallName::Suggest => listing::answer(call, output, to),
         _ => reports::answer(call, output, to),
     }
 }

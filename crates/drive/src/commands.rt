@@ -2,37 +2,36 @@
 use crate::fields::{bits_at, real_at, u8_at, u16_at, u32_at};
 use crate::print::{put_numbered, put_refused};
 use protocol_frame::Command;
-use script::{Call, calls};
+use script::{Call, CallName};
 use text::{put, put_hex};
 
 // The frame that a call of a command makes.
 pub(crate) fn made(call: Call) -> Command {
-    let code = call.code;
     let motor_id = u16_at(call, 0);
-    match code {
-        calls::MIT => mit(call),
-        calls::POS_VEL => protocol_setpoint::pos_vel_cmd(
+    match call.name {
+        CallName::Mit => mit(call),
+        CallName::PosVel => protocol_setpoint::pos_vel_cmd(
             motor_id,
             bits_at(call, 1),
             bits_at(call, 2),
         ),
-        calls::VEL => protocol_setpoint::vel_cmd(motor_id, bits_at(call, 1)),
-        calls::FORCE_POS => protocol_setpoint::force_pos_cmd(
+        CallName::Vel => protocol_setpoint::vel_cmd(motor_id, bits_at(call, 1)),
+        CallName::ForcePos => protocol_setpoint::force_pos_cmd(
             motor_id,
             bits_at(call, 1),
             real_at(call, 2),
             real_at(call, 3),
         ),
-        calls::READ_REG => protocol_request::register_read_cmd(motor_id, u8_at(call, 1)),
-        calls::WRITE_REG => protocol_request::register_write_cmd(
+        CallName::ReadReg => protocol_request::register_read_cmd(motor_id, u8_at(call, 1)),
+        CallName::WriteReg => protocol_request::register_write_cmd(
             motor_id,
             u8_at(call, 1),
             u32_at(call, 2),
         ),
-        calls::STORE_PARAMS => protocol_request::store_params_cmd(motor_id),
-        calls::FEEDBACK_REQUEST => protocol_request::feedback_request_cmd(motor_id),
-        calls::DISABLE => protocol_request::disable_cmd(motor_id),
-        calls::ZERO => protocol_request::set_zero_cmd(motor_id),
+        CallName::StoreParams => protocol_request::store_params_cmd(motor_id),
+        CallName::FeedbackRequest => protocol_request::feedback_request_cmd(motor_id),
+        CallName::Disable => protocol_request::disable_cmd(motor_id),
+        CallName::Zero => protocol_request::set_zero_cmd(motor_id),
         _ => protocol_request::clear_error_cmd(motor_id),
     }
 }

@@ -1,45 +1,46 @@
 // The calls and the refusals in words, for a person at the terminal.
-use script_words::index_of;
+use script::CallName;
 use text::put;
 
-// A line for each call, at the place that its code has.
-const CALLS: [u8; 674] = *b"\
-    start-limits MOTOR FEEDBACK P V T\n\
-    start-model NAME MOTOR FEEDBACK\n\
-    get-u32 RID TIMEOUT\n\
-    get-f32 RID TIMEOUT\n\
-    write-u32 RID VALUE\n\
-    write-f32 RID BITS\n\
-    fresh-state TIMEOUT\n\
-    store\n\
-    mode MODE TIMEOUT\n\
-    clock READING\n\
-    sent\n\
-    send-timeout\n\
-    send-failed\n\
-    slept\n\
-    frame READING ID DATA DLC EXT\n\
-    frame-lent READING ID DATA DLC EXT\n\
-    accepts ID DATA DLC EXT\n\
-    patch STATUS MOS ROTOR\n\
-    session\n\
-    mit MOTOR P V T POS VEL KP KD TORQ\n\
-    pos-vel MOTOR POS VLIM\n\
-    vel MOTOR VEL\n\
-    force-pos MOTOR POS VLIM RATIO\n\
-    read-reg MOTOR RID\n\
-    write-reg MOTOR RID BITS\n\
-    store-params MOTOR\n\
-    feedback-request MOTOR\n\
-    disable MOTOR\n\
-    zero MOTOR\n\
-    clear MOTOR\n\
-    decode P V T DATA\n\
-    sort DATA\n\
-    status-name N\n\
-    register N\n\
-    match P V T TOL\n\
-    suggest P V T COUNT\n";
+// A line for each call, in the order of their names.
+const CALLS: [&[u8]; 36] = [
+    b"start-limits MOTOR FEEDBACK P V T",
+    b"start-model NAME MOTOR FEEDBACK",
+    b"get-u32 RID TIMEOUT",
+    b"get-f32 RID TIMEOUT",
+    b"write-u32 RID VALUE",
+    b"write-f32 RID BITS",
+    b"fresh-state TIMEOUT",
+    b"store",
+    b"mode MODE TIMEOUT",
+    b"clock READING",
+    b"sent",
+    b"send-timeout",
+    b"send-failed",
+    b"slept",
+    b"frame READING ID DATA DLC EXT",
+    b"frame-lent READING ID DATA DLC EXT",
+    b"accepts ID DATA DLC EXT",
+    b"patch STATUS MOS ROTOR",
+    b"session",
+    b"mit MOTOR P V T POS VEL KP KD TORQ",
+    b"pos-vel MOTOR POS VLIM",
+    b"vel MOTOR VEL",
+    b"force-pos MOTOR POS VLIM RATIO",
+    b"read-reg MOTOR RID",
+    b"write-reg MOTOR RID BITS",
+    b"store-params MOTOR",
+    b"feedback-request MOTOR",
+    b"disable MOTOR",
+    b"zero MOTOR",
+    b"clear MOTOR",
+    b"decode P V T DATA",
+    b"sort DATA",
+    b"status-name N",
+    b"register N",
+    b"match P V T TOL",
+    b"suggest P V T COUNT",
+];
 
 const FIELDS: [u8; 219] = *b"\
     MOTOR and FEEDBACK have 16 bits; RID, DLC, STATUS, MOS, ROTOR and N 8;\n\
@@ -62,54 +63,20 @@ const REFUSALS: [u8; 501] = *b"\
 
 pub(crate) fn put_help(notes: &mut [u8], to: usize) -> usize {
     let at = put_calls(notes, to);
-    let at = put_fields(notes, at);
-    put_refusals(notes, at)
+    let at = put(notes, at, &FIELDS);
+    put(notes, at, &REFUSALS)
 }
 
 fn put_calls(notes: &mut [u8], to: usize) -> usize {
-    put(notes, to, &CALLS)
-}
-
-fn put_fields(notes: &mut [u8], to: usize) -> usize {
-    put(notes, to, &FIELDS)
-}
-
-fn put_refusals(notes: &mut [u8], to: usize) -> usize {
-    put(notes, to, &REFUSALS)
-}
-
-// The call with this code, and its arguments.
-pub(crate) fn put_call(code: u64, notes: &mut [u8], to: usize) -> usize {
-    put_line(&CALLS, code, notes, to)
-}
-
-// The line of `text` with this number, from 0 on.
-pub(crate) fn put_line(text: &[u8], number: u64, notes: &mut [u8], to: usize) -> usize {
-    let from = line_start(text, number);
-    if from >= text.len() {
-        return to;
+    let mut at = to;
+    for call in &CALLS {
+        at = put(notes, at, call);
+        at = put(notes, at, b"\n");
     }
-    let end = index_of(text, from, b'\n');
-    put_part(text, from, end, notes, to)
+    at
 }
 
-fn put_part(text: &[u8], from: usize, end: usize, notes: &mut [u8], to: usize) -> usize {
-    if from <= end {
-        if end <= text.len() {
-            return put(notes, to, &text[from..end]);
-        }
-    }
-    to
-}
-
-fn line_start(text: &[u8], number: u64) -> usize {
-    let mut from = 0;
-    for _ in 0..number {
-        let end = index_of(text, from, b'\n');
-        if end >= text.len() {
-            return end;
-        }
-        from = end + 1;
-    }
-    from
+// The call and its arguments.
+pub(crate) fn put_call(name: CallName, notes: &mut [u8], to: usize) -> usize {
+    put(notes, to, CALLS[name as usize])
 }

@@ -2,18 +2,28 @@
 // or until there is much of it.
 ghost use Rattle.std.specs.Prelude.{◌-◌, ◌≤◌};
 
-use crate::answer::{NO_SESSION, answer};
+use crate::answer::answer;
 use crate::input::{Place, before_first, complain, line_at, next_line};
 use crate::notes::note;
 use crate::sessions;
 use crate::sessions::unstarted;
-use script::{Call, calls, faults};
+use script::{Call, CallName, Fault};
 use std::io::{Print, Read};
 use text::put;
 
 // The output is written once it has so many bytes. The rest of its buffer has room for any answer;
 // the longest, a session that holds every entry, has some 4,000 bytes.
 const FULL: usize = 49_152;
+
+// What a line asks for: a call on the session, which a start begins, or another call.
+#[derive(Clone, Copy)]
+enum Asked {
+    Nothing,
+    Session(Call),
+    NoSession,
+    Other(Call),
+    Bad(Fault),
+}
 
 // Reads and answers to the end of the input, or until an answer cannot be written. A proved loop has
 // to end, and nothing says that the input does, so the turns are counted down from a number that no
@@ -33,49 +43,75 @@ pub(crate) fn run(
     while turns > 0 {
         place = next_line(stdin, stderr, input, place);
         let line = line_at(input, place);
-        let call = call_of(line, place.is_long, state.is_started);
-        if call.code <= calls::SESSION {
+        let asked = asked_by(line, place.is_long, state.is_started);
+        if let Asked::Session(call) = asked {
             state = sessions::answer(state, call, line, output);
         }
-        state.to = end_answer(stdout, call, output, state.to, place.is_dry);
-        noted = put_note(stderr, call, line, place, notes, noted);
+        state.to = end_answer(stdout, asked, output, state.to, place.is_dry);
+        noted = put_note(stderr, asked, line, place, notes, noted);
         turns = turns_left(turns, place, state.to);
     }
     finish(stderr, state.to);
 }
 
-fn call_of(line: &[u8], is_long: bool, is_started: bool) -> Call {
+fn asked_by(line: &[u8], is_long: bool, is_started: bool) -> Asked {
     if is_long {
-        return Call {
-            code: calls::BAD,
-            args: [faults::LONG_LINE, 0, 0, 0, 0, 0, 0, 0, 0],
-        };
+        return Asked::Bad(Fault::LongLine);
     }
-    let mut call = script::parse(line);
-    call.code = code_for(call.code, is_started);
-    call
+    match script::parse(line) {
+        Ok(Some(call)) => called(call, is_started),
+        Ok(None) => Asked::Nothing,
+        Err(fault) => Asked::Bad(fault),
+    }
 }
 
-fn code_for(code: u64, is_started: bool) -> u64 {
-    if is_started {
-        return code;
+fn called(call: Call, is_started: bool) -> Asked {
+    match call.name {
+        CallName::StartLimits | CallName::StartModel => Asked::Session(call),
+        name if is_on_session(name) => {
+            if is_started {
+                Asked::Session(call)
+            } else {
+                Asked::NoSession
+            }
+        }
+        _ => Asked::Other(call),
     }
-    match code {
-        calls::GET_U32..=calls::SESSION => NO_SESSION,
-        _ => code,
-    }
+}
+
+fn is_on_session(name: CallName) -> bool {
+    matches!(
+        name,
+        CallName::GetU32
+            | CallName::GetF32
+            | CallName::WriteU32
+            | CallName::WriteF32
+            | CallName::FreshState
+            | CallName::Store
+            | CallName::Mode
+            | CallName::Clock
+            | CallName::Sent
+            | CallName::SendTimeout
+            | CallName::SendFailed
+            | CallName::Slept
+            | CallName::Frame
+            | CallName::FrameLent
+            | CallName::Accepts
+            | CallName::Patch
+            | CallName::Session
+    )
 }
 
 // Puts the answer where the call is none on the session, and its newline, writes out what has gathered
 // if more is to be read or it is much, and answers where the output goes on.
 fn end_answer(
     stdout: &impl Print,
-    call: Call,
+    asked: Asked,
     output: &mut [u8],
     to: usize,
     is_dry: bool,
 ) -> usize {
-    let at = put_answer(call, output, to);
+    let at = put_answer(asked, output, to);
     if is_dry {
         return rest_after(stdout, output, at);
     }
@@ -85,15 +121,14 @@ fn end_answer(
     rest_after(stdout, output, at)
 }
 
-fn put_answer(call: Call, output: &mut [u8], to: usize) -> usize {
-    let code = call.code;
-    if code == calls::NOTHING {
-        return to;
-    }
-    if code <= calls::SESSION {
-        return put(output, to, b"\n");
-    }
-    let at = answer(call, output, to);
+fn put_answer(asked: Asked, output: &mut [u8], to: usize) -> usize {
+    let at = match asked {
+        Asked::Nothing => return to,
+        Asked::Session(_) => to,
+        Asked::NoSession => put(output, to, b"no session"),
+        Asked::Other(call) => answer(call, output, to),
+        Asked::Bad(_) => put(output, to, b"bad line"),
+    };
     put(output, at, b"\n")
 }
 
@@ -110,13 +145,16 @@ fn rest_after(stdout: &impl Print, output: &[u8], to: usize) -> usize {
 // The same for what is said of bad lines on standard error. What cannot be written there is dropped.
 fn put_note(
     stderr: &impl Print,
-    call: Call,
+    asked: Asked,
     line: &[u8],
     place: Place,
     notes: &mut [u8],
     to: usize,
 ) -> usize {
-    let at = note(call, line, place.number, notes, to);
+    let at = match asked {
+        Asked::Bad(fault) => note(fault, line, place.number, notes, to),
+        _ => to,
+    };
     if !place.is_dry {
         if at < FULL {
             return at;

@@ -7,13 +7,12 @@ use model_match::match_models_by_limits;
 use model_query::{Listing, Query, QueryOutcome};
 use model_suggest::suggest_models_by_limits;
 use motor_core::name::Name;
-use script::{Call, calls};
+use script::{Call, CallName};
 use text::put;
 
 pub(crate) fn answer(call: Call, output: &mut [u8], to: usize) -> usize {
-    let code = call.code;
-    match code {
-        calls::MATCH => put_listing(matched(call), output, to),
+    match call.name {
+        CallName::Match => put_listing(matched(call), output, to),
         _ => put_listing(suggested(call), output, to),
     }
 }

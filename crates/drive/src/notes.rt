@@ -1,76 +1,53 @@
 // What drive says of a bad line on standard error.
-use crate::fields::{u8_at, u64_at};
-use crate::help::{put_call, put_help, put_line};
+use crate::help::{put_call, put_help};
 use crate::print::put_numbered;
-use script::{Call, calls, faults};
-use text::{put, put_decimal, same_bytes};
+use script::{CallName, Fault};
+use script_words::Kind;
+use text::put;
 
-// What is wrong, at the place that the fault's number has. The calls that have arguments follow.
-const FAULTS: [u8; 151] = *b"\
-    longer than 4095 bytes\n\
-    a tab or a carriage return\n\
-    unknown word, the line help lists the calls\n\
-    too few arguments for \n\
-    too many arguments for \n\
-    argument \n";
-
-// What is said of an argument, by its kind.
-const KINDS: [u8; 267] = *b"\
-    does not fit: 0 or 1 is wanted for \n\
-    does not fit: a number of 8 bits is wanted for \n\
-    does not fit: a number of 16 bits is wanted for \n\
-    does not fit: a number of 32 bits is wanted for \n\
-    does not fit: a number of 64 bits is wanted for \n\
-    does not fit: a name is wanted for \n";
-
-// Why the line with this number is bad; where it asks for help, the help. Nothing for other calls.
-pub(crate) fn note(call: Call, line: &[u8], number: u64, notes: &mut [u8], to: usize) -> usize {
-    if call.code != calls::BAD {
-        return to;
-    }
-    if asks_help(call, line) {
+// Why the line with this number is bad; where it asks for help, the help.
+pub(crate) fn note(fault: Fault, line: &[u8], number: u64, notes: &mut [u8], to: usize) -> usize {
+    if fault == Fault::UnknownWord && line == b"help".as_slice() {
         return put_help(notes, to);
     }
     let at = put_numbered(notes, to, b"line ", number);
     let at = put(notes, at, b": ");
-    let at = put_fault(call, notes, at);
+    let at = put_fault(fault, notes, at);
     put(notes, at, b"\n")
 }
 
-// The rest of a long line may be any word.
-fn asks_help(call: Call, line: &[u8]) -> bool {
-    if u64_at(call, 0) != faults::UNKNOWN_WORD {
-        return false;
+fn put_fault(fault: Fault, notes: &mut [u8], to: usize) -> usize {
+    match fault {
+        Fault::LongLine => put(notes, to, b"longer than 4095 bytes"),
+        Fault::ControlByte => put(notes, to, b"a tab or a carriage return"),
+        Fault::UnknownWord => put(notes, to, b"unknown word, the line help lists the calls"),
+        Fault::TooFew(name) => put_count(b"too few arguments for ", name, notes, to),
+        Fault::TooMany(name) => put_count(b"too many arguments for ", name, notes, to),
+        Fault::WrongArgument(name, place, kind) => { put_argument(name, place, kind, notes, to) }
     }
-    same_bytes(line, b"help")
 }
 
-fn put_fault(call: Call, notes: &mut [u8], to: usize) -> usize {
-    let at = put_line(&FAULTS, u64_at(call, 0), notes, to);
-    if u64_at(call, 0) < faults::TOO_FEW {
-        return at;
-    }
-    let at = put_argument(call, notes, at);
-    put_call(u64_at(call, 1), notes, at)
+fn put_count(words: &[u8], name: CallName, notes: &mut [u8], to: usize) -> usize {
+    let at = put(notes, to, words);
+    put_call(name, notes, at)
 }
 
 // Which argument does not fit, and what is wanted.
-fn put_argument(call: Call, notes: &mut [u8], to: usize) -> usize {
-    if u64_at(call, 0) != faults::WRONG_ARGUMENT {
-        return to;
-    }
-    let at = put_decimal(notes, to, u64_at(call, 2));
-    let at = put(notes, at, b" ");
-    put_line(&KINDS, place_of(u8_at(call, 3)), notes, at)
+fn put_argument(name: CallName, place: usize, kind: Kind, notes: &mut [u8], to: usize) -> usize {
+    let at = put_numbered(notes, to, b"argument ", place as u64);
+    let at = put(notes, at, b" does not fit: ");
+    let at = put(notes, at, wanted(kind));
+    let at = put(notes, at, b" is wanted for ");
+    put_call(name, notes, at)
 }
 
-fn place_of(kind: u8) -> u64 {
+fn wanted(kind: Kind) -> &'static [u8] {
     match kind {
-        b'f' => 0,
-        b'b' => 1,
-        b'i' => 2,
-        b'w' => 3,
-        b'q' => 4,
-        _ => 5,
+        Kind::Flag => b"0 or 1",
+        Kind::U8 => b"a number of 8 bits",
+        Kind::U16 => b"a number of 16 bits",
+        Kind::U32 => b"a number of 32 bits",
+        Kind::U64 => b"a number of 64 bits",
+        Kind::Name => b"a name",
     }
 }

@@ -4,15 +4,14 @@ use crate::print::{put_measured, put_next, put_numbered, put_refused, put_status
 use protocol_feedback::{Decoded, SensorFeedback};
 use protocol_received::FrameClass;
 use registers::{RegisterAccess, RegisterDataType, RegisterInfo};
-use script::{Call, calls};
+use script::{Call, CallName};
 use text::put;
 
 pub(crate) fn answer(call: Call, output: &mut [u8], to: usize) -> usize {
-    let code = call.code;
-    match code {
-        calls::DECODE => put_decoded(decoded(call), output, to),
-        calls::SORT => put_class(class(u64_at(call, 0)), output, to),
-        calls::STATUS_NAME => put_status(u8_at(call, 0), output, to),
+    match call.name {
+        CallName::Decode => put_decoded(decoded(call), output, to),
+        CallName::Sort => put_class(class(u64_at(call, 0)), output, to),
+        CallName::StatusName => put_status(u8_at(call, 0), output, to),
         _ => put_register(registers::register_info(u8_at(call, 0)), output, to),
     }
 }

@@ -7,7 +7,7 @@ use crate::session_text::put_session;
 use model_damiao::damiao_models;
 use model_list::Maxima;
 use motor_core::bus::CanFrame;
-use script::{Call, calls};
+use script::{Call, CallName};
 use script_words::second_word;
 use session::start::{StartOutcome, Started, from_limits, from_model, no_session};
 use session::{AfterPatch, Head, Session, accepts_frame, patch_latest};
@@ -32,15 +32,14 @@ pub(crate) fn unstarted() -> State {
     }
 }
 
-// A start, or a call on a session that has started: a code up to `calls::SESSION`.
+// A start, or a call on a session that has started.
 pub(crate) fn answer(state: State, call: Call, line: &[u8], output: &mut [u8]) -> State {
-    let code = call.code;
-    match code {
-        calls::START_LIMITS | calls::START_MODEL => return start(state, call, line, output),
-        calls::FRAME | calls::FRAME_LENT => return take(state, call, output),
-        calls::PATCH => return patch(state, call, output),
-        calls::ACCEPTS => return ask(state, call, output),
-        calls::SESSION => return show(state, output),
+    match call.name {
+        CallName::StartLimits | CallName::StartModel => return start(state, call, line, output),
+        CallName::Frame | CallName::FrameLent => return take(state, call, output),
+        CallName::Patch => return patch(state, call, output),
+        CallName::Accepts => return ask(state, call, output),
+        CallName::Session => return show(state, output),
         _ => return run(state, call, output),
     }
 }
@@ -65,7 +64,7 @@ fn start(state: State, call: Call, line: &[u8], output: &mut [u8]) -> State {
 }
 
 fn started(call: Call, line: &[u8]) -> Started {
-    if call.code == calls::START_MODEL {
+    if call.name == CallName::StartModel {
         return from_model(
             u16_at(call, 1),
             u16_at(call, 2),

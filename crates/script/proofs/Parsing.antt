@@ -1,14 +1,15 @@
 -- Laws of `specs/Line.antt`, by the tests of the code. Assumes nothing.
-use Rattle.std.proofs.Common.{◌≡◌, ℕ, suc, ◌+◌, ◌<◌, ◌≤◌, List, [], ◌∷◌, length, drop, refl, sym, ap, ◌∙◌, Option, Some, None, Bor, find, arith, set, subst, add-one, drop-drop, take, cond, Bool, true, false, ◌||◌, Result, Ok, Err}
-use Rattle.std.specs.List.{enumerate_from, slice_get}
-use Rattle.std.specs.Option.{option_map, unwrap_or}
+use Rattle.std.proofs.Common.{eqb, ◌≡◌, ℕ, suc, ◌+◌, ◌<◌, ◌≤◌, List, [], ◌∷◌, length, drop, refl, sym, ap, ◌∙◌, Option, Some, None, Bor, find, arith, set, subst, add-one, drop-drop, take, cond, Bool, true, false, ◌||◌, Result, Ok, Err}
+use Rattle.std.specs.List.{enumerate_from}
+use Rattle.std.specs.Option.{option_map}
 use Rattle.std.proofs.lemmas.Iterator.{YieldsList}
+use Rattle.std.proofs.lemmas.List.Splits.{length-slice_split}
 use Rattle.std.proofs.lemmas.Bool.Decides.{nat_tests}
 use Rattle.std.specs.Str.{bytes_eq}
 use borrow.Author.Tests.{lt-ltb, le-ltb}
 use Rattle.text.specs.Text.{same}
 use Rattle.script_words.specs.Number.{field_of}
-use Rattle.script_words.specs.Word.{split}
+use Rattle.script_words.specs.Word.{split, word_at}
 use Rattle.script_words.specs.declared.Kind.{Kind}
 use Rattle.script.specs.Line.{Form, form_of, calls, with_value, fields_of, call_from, call_of, has, passed_over, some_call, parsed}
 use Rattle.script.specs.declared.Call.{Call}
@@ -33,26 +34,18 @@ module _ {S : Type 0} (steps : S → Option (ℕ × Bor (List ℕ)) → S → Ty
   over n [] s t h k = refl
   over n (word ∷ words) s t h k = absurd (h.runs.0 t k)
 
--- ---- the first word, and the others
-pub first_word : {S : Type 0} {steps : S → Option (Bor (List ℕ)) → S → Type 0} (words : List (List ℕ)) (s t : S) (r : Option (Bor (List ℕ))) (w : List ℕ)
-    → w ≡ unwrap_or (option_map (λ x. x.now) r) [] → steps s r t → YieldsList steps (λ x. x.now) s words → w ≡ unwrap_or (slice_get words 0) []
-first_word [] s t None w q e h = q
-first_word [] s t (Some x) w q e h = absurd (h.runs x t e)
-first_word (word ∷ words) s t None w q e h = absurd (h.runs.0 t e)
-first_word (word ∷ words) s t (Some x) w q e h = q ∙ (h.runs.1 x t e).0
-
-begun : (forms : List Form) (words : List (List ℕ)) → 0 < length words
-    → call_of forms words ≡ call_from (find (λ f. same f.word (unwrap_or (slice_get words 0) [])) forms) (drop 1 words)
-unfolding call_of
+-- ---- the row of the first word
+begun : (forms : List Form) (words : List (List ℕ)) → 0 < length words → call_of forms words ≡ call_from (find (λ f. same f.word (word_at 0 words)) forms) (drop 1 words)
+unfolding call_of word_at
 begun forms [] h = absurd (omega arith)
 begun forms (word ∷ words) h = refl
 
-pub named : (words : List (List ℕ)) (w : List ℕ) (o : Option Row) → 0 < length words → w ≡ unwrap_or (slice_get words 0) [] → option_map form_of o ≡ find (λ f. same f.word w) calls
-    → call_of calls words ≡ call_from (option_map form_of o) (drop 1 words)
-named words w o h q e =
-    begun calls words h
-    ∙ ap (λ (v : List ℕ). call_from (find (λ f. same f.word v) calls) (drop 1 words)) (sym q)
-    ∙ ap (λ (f : Option Form). call_from f (drop 1 words)) (sym e)
+pub named : (line word : List ℕ) (o r : Option Row) → word ≡ word_at 0 (split line) → option_map form_of o ≡ find (λ f. same f.word word) calls → o ≡ r
+    → call_of calls (split line) ≡ call_from (option_map form_of r) (drop 1 (split line))
+named line word o r q e h =
+    begun calls (split line) (omega (arith, length-slice_split (λ b. eqb b 32) line))
+    ∙ ap (λ (w : List ℕ). call_from (find (λ f. same f.word w) calls) (drop 1 (split line))) (sym q)
+    ∙ ap (λ (f : Option Form). call_from f (drop 1 (split line))) (sym e ∙ ap (option_map form_of) h)
 
 -- ---- the arguments from place i on
 module _ (kinds : List Kind) (words : List (List ℕ)) (name : CallName) (i : ℕ) (args : List ℕ) where

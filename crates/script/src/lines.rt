@@ -5,14 +5,13 @@ ghost use Rattle.script.specs.Line.{calls, call_of, parsed};
 
 use crate::calls::{Row, row_of};
 use crate::{Call, Fault, MAX_LINE};
-use script_words::field;
+use script_words::{field, word_at};
 
 // The call that the line's words make.
 fn call_of(line: &[u8]) -> Result<Call, Fault>
     ensures { result ≡ call_of calls (split line.now) }
 {
-    let word = line.split(|byte| *byte == b' ').next().unwrap_or_default();
-    let Some(Row(_, name, kinds)) = row_of(word) else {
+    let Some(Row(_, name, kinds)) = row_of(word_at(line, 0)) else {
         return Err(Fault::UnknownWord);
     };
     let mut kinds = kinds.iter();

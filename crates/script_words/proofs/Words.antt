@@ -2,11 +2,11 @@
 use Rattle.std.proofs.Common.{◌≡◌, ◌≤◌, ◌<◌, ℕ, eqb, List, [], ◌∷◌, length, take, drop, length-drop, refl, sym, ◌+◌, ◌⊎◌, inl, inr, ap, ◌∙◌, arith, Option, Some, None, Bor}
 use Rattle.std.proofs.Math.ListN.{drop_of_length-le}
 use Rattle.std.proofs.Math.Seq.{take-length}
-use Rattle.std.specs.List.{slice_get, slice_range, position, slice_split}
+use Rattle.std.specs.List.{slice_range, position}
 use Rattle.std.specs.Option.{unwrap_or, option_map, MatchOption, UnwrapsOrElse}
 use Rattle.std.proofs.lemmas.Bool.Decides.{nat_tests}
 use Rattle.std.proofs.lemmas.List.Sums.{prefix_len-le-length}
-use Rattle.script_words.specs.Word.{index_of, split, second}
+use Rattle.script_words.specs.Word.{index_of, word_at, second}
 
 -- the place that is found, or the length
 pub place_or_length : (b : ℕ) (s : List ℕ) → unwrap_or (position (λ x. eqb x b) s) (length s) ≡ index_of b s
@@ -30,11 +30,8 @@ rest_at s from (Some x) r h m =
     ap (λ (y : Bor (List ℕ)). y.now) h ∙ m.2 ∙ ap (λ (n : ℕ). take n (drop from s)) (sym (length-drop from s)) ∙ take-length (drop from s)
 
 -- the second word is the one at place 1
-pub second_at : (line : List ℕ) (word : Option (List ℕ)) → word ≡ slice_get (slice_split (λ b. eqb b 32) line) 1 → unwrap_or word [] ≡ second (split line)
-unfolding second
-second_at line word e = ap (λ (o : Option (List ℕ)). unwrap_or o []) e ∙ by (split line)
-  where
-    by : (words : List (List ℕ)) → unwrap_or (slice_get words 1) [] ≡ second words
-    by [] = refl
-    by (word ∷ []) = refl
-    by (word ∷ (other ∷ words)) = refl
+pub second_at : (words : List (List ℕ)) → word_at 1 words ≡ second words
+unfolding word_at second
+second_at [] = refl
+second_at (word ∷ []) = refl
+second_at (word ∷ (other ∷ words)) = refl

@@ -1,6 +1,7 @@
 -- The words of a line: what stands between its spaces. Two spaces in a row, or one at either end, make an empty word.
 use Rattle.std.specs.Prelude.{ℕ, List, [], ◌∷◌, eqb}
-use Rattle.std.specs.List.{position_or_len, slice_split}
+use Rattle.std.specs.List.{position_or_len, slice_split, slice_get}
+use Rattle.std.specs.Option.{unwrap_or}
 use Prim.Native.Char.{code}
 
 -- the index of the first b, or the length where there is none
@@ -9,6 +10,10 @@ index_of b s = position_or_len (λ x. eqb x b) s
 
 abbrev pub split : List ℕ → List (List ℕ)
 split line = slice_split (λ b. eqb b (code " ")) line
+
+-- the word at this place, or an empty one
+unfoldable pub word_at : ℕ → List (List ℕ) → List ℕ
+word_at place words = unwrap_or (slice_get words place) []
 
 unfoldable pub second : List (List ℕ) → List ℕ
 second [] = []

@@ -5,7 +5,7 @@
 mod numbers;
 
 ghost use Rattle.std.specs.Prelude.{◌≡◌, ◌+◌, drop};
-ghost use Rattle.script_words.specs.Word.{index_of, split, second};
+ghost use Rattle.script_words.specs.Word.{index_of, split, word_at, second};
 
 pub use numbers::{field, number};
 
@@ -28,9 +28,17 @@ pub fn index_of(s: &[u8], from: usize, byte: u8) -> usize
     from + rest.iter().position(|b| *b == byte).unwrap_or(rest.len())
 }
 
+// The word of a line at this place, from 0 on. Empty where there is none.
+pub fn word_at(line: &[u8], place: usize) -> &[u8]
+    ensures { result.now ≡ word_at place (split line.now) }
+{
+    line.split(|byte| *byte == b' ').nth(place).unwrap_or_default()
+}
+
 // The word after the first: the name in a line of `start-model`. Empty where there is none.
+#[tactic(auto, using(crate::proofs::Words::second_at))]
 pub fn second_word(line: &[u8]) -> &[u8]
     ensures { result.now ≡ second (split line.now) }
 {
-    line.split(|byte| *byte == b' ').nth(1).unwrap_or_default()
+    word_at(line, 1)
 }

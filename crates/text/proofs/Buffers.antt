@@ -3,11 +3,14 @@ use Prim.Native.Nat.{ℕ, zero, suc, ◌+◌, ◌-◌, ◌/◌, ◌%◌, ◌≤�
 use mathlib.Core.Path.{◌≡◌, refl, sym, ap, subst, ◌∙◌}
 use mathlib.Core.List.{List, [], ◌∷◌, ◌++◌}
 use native.Mathlib.Nat.{le_of_suc-le-suc, not-suc-le-zero}
-use native.Mathlib.Numerals.{add-one, sub-one}
+use native.Mathlib.Numerals.{sub-one}
 use native.Mathlib.Omega.{arith}
-use lib.ListN.{length, get_or, take, drop, set, length-drop}
-use lib.Seq.{slice, drop-cons, length-take-le, take-set-lt, append_snoc}
-use borrow.Author.Tests.{eq-eqb, ne_eqb}
+use lib.ListN.{length, take, drop, set}
+use lib.Seq.{slice, length-take-le, take-set-lt, append_snoc}
+use Rattle.std.proofs.Common.{not, unwrap_or, eqb, ltb, cond, true, false, Bool, Some, None}
+use Rattle.std.specs.List.{position, prefix_len}
+use Rattle.std.proofs.lemmas.Bool.Decides.{nat_tests}
+use Rattle.std.proofs.lemmas.List.Sums.{prefix_len-le-length}
 use Rattle.text.specs.Text.{glyph, digits, trimmed}
 
 -- ---- digits, written from the last one on
@@ -33,27 +36,43 @@ moved b (suc j) k rest g out some h room e =
     ∙ sym (append_snoc todo (glyph (rest % b)) done)
 
 -- ---- zeros in front
-single : (l : List ℕ) → length l ≤ 1 → trimmed l ≡ l
-unfolding trimmed
-single [] h = refl
-single (d ∷ []) h = refl
-single (d ∷ (e ∷ rest)) h = absurd (not-suc-le-zero (le_of_suc-le-suc h))
+-- the place of the first digit that is no zero, or else of the last one
+abbrev pub front : List ℕ → ℕ
+front s = unwrap_or (position (λ d. not (eqb d 48)) s) (length s - 1)
 
-module _ (s : List ℕ) (i : ℕ) where
-  pub at_last : length s ≤ i + 1 → trimmed (drop i s) ≡ drop i s
-  at_last h = single (drop i s) (omega (arith, length-drop i s))
+pub front_le : (s : List ℕ) → front s ≤ length s
+front_le s = grind (arith, nat_tests, prefix_len-le-length {X = ℕ})
 
-  module _ (h : i + 1 < length s) where
-    two : drop i s ≡ get_or s i 0 ∷ (get_or s (i + 1) 0 ∷ drop (suc (i + 1)) s)
-    two =
-        drop-cons s i 0 (omega arith)
-        ∙ ap (λ (n : ℕ). get_or s i 0 ∷ drop n s) (sym (add-one i))
-        ∙ ap (λ (l : List ℕ). get_or s i 0 ∷ l) (drop-cons s (i + 1) 0 h)
+-- the same, for n digits of which m zeros stand in front, behind one that is a zero or not
+behind : Bool → ℕ → ℕ → ℕ
+behind t m n = unwrap_or (cond (ltb (cond (not (not t)) (1 + m) 0) (suc n)) (Some (cond (not (not t)) (1 + m) 0)) None) (suc n - 1)
 
-    pub not_zero : (get_or s i 0 ≡ 48 → ⊥) → trimmed (drop i s) ≡ drop i s
-    unfolding trimmed
-    not_zero e = ap trimmed two ∙ simp (ne_eqb (get_or s i 0) 48 e) (sym two)
+after_zero : (m n : ℕ) → 0 < n → behind true m n ≡ suc (unwrap_or (cond (ltb m n) (Some m) None) (n - 1))
+unfolding behind
+after_zero m n h = grind (arith, nat_tests)
 
-    pub a_zero : get_or s i 0 ≡ 48 → trimmed (drop i s) ≡ trimmed (drop (i + 1) s)
-    unfolding trimmed
-    a_zero e = ap trimmed two ∙ simp (eq-eqb (get_or s i 0) 48 e) (ap trimmed (sym (drop-cons s (i + 1) 0 h)))
+after_other : (m n : ℕ) → behind false m n ≡ 0
+unfolding behind
+after_other m n = grind (arith, nat_tests)
+
+alone : (t : Bool) → behind t 0 0 ≡ 0
+unfolding behind
+alone true = refl
+alone false = refl
+
+pub front_is : (s : List ℕ) → drop (front s) s ≡ trimmed s
+unfolding trimmed behind
+front_is [] = refl
+front_is (d ∷ []) = ap (λ (n : ℕ). drop n (d ∷ [])) (alone (eqb d 48))
+front_is (d ∷ (e ∷ rest)) = by (eqb d 48) refl (front_is (e ∷ rest))
+  where
+    by : (t : Bool) → eqb d 48 ≡ t → drop (front (e ∷ rest)) (e ∷ rest) ≡ trimmed (e ∷ rest) → drop (front (d ∷ (e ∷ rest))) (d ∷ (e ∷ rest)) ≡ cond t (trimmed (e ∷ rest)) (d ∷ (e ∷ rest))
+    by true h k =
+        let m = prefix_len (λ x. not (not (eqb x 48))) (e ∷ rest) in
+        ap (λ (z : Bool). drop (behind z m (length (e ∷ rest))) (d ∷ (e ∷ rest))) h
+        ∙ ap (λ (n : ℕ). drop n (d ∷ (e ∷ rest))) (after_zero m (length (e ∷ rest)) (omega arith))
+        ∙ k
+    by false h k =
+        let m = prefix_len (λ x. not (not (eqb x 48))) (e ∷ rest) in
+        ap (λ (z : Bool). drop (behind z m (length (e ∷ rest))) (d ∷ (e ∷ rest))) h
+        ∙ ap (λ (n : ℕ). drop n (d ∷ (e ∷ rest))) (after_other m (length (e ∷ rest)))

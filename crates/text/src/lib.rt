@@ -7,21 +7,11 @@ ghost use Rattle.text.specs.Text.{same, put_at, place_after, digits, trimmed, de
 ghost use Rattle.text.specs.Text.{glyph as Text·glyph};
 
 // Whether the two are of one length and the same byte for byte.
-#[tactic(auto, using(crate::proofs::Same::same_rules))]
+#[tactic(auto, using(crate::proofs::Same::same_is))]
 pub fn same_bytes(a: &[u8], b: &[u8]) -> bool
     ensures { result ≡ same a.now b.now }
 {
-    if a.len() != b.len() {
-        return false;
-    }
-    let mut i = 0;
-    while i < a.len() {
-        if a[i] != b[i] {
-            return false;
-        }
-        i += 1;
-    }
-    true
+    a == b
 }
 
 // Puts `text` into `out` from `at` on, and answers the place after it.
@@ -29,15 +19,13 @@ pub fn same_bytes(a: &[u8], b: &[u8]) -> bool
 pub fn put(out: &mut [u8], at: usize, text: &[u8]) -> usize
     ensures { (out.new ≡ put_at out.old at text.now) × (result ≡ place_after out.old at text.now) }
 {
-    let mut i = 0;
     let mut to = at;
-    while i < text.len() {
+    for byte in text {
         if to >= out.len() {
             return to;
         }
-        out[to] = text[i];
+        out[to] = *byte;
         to += 1;
-        i += 1;
     }
     to
 }
@@ -59,15 +47,9 @@ pub fn put_hex(out: &mut [u8], at: usize, n: u64, width: usize) -> usize
     ensures { (out.new ≡ put_at out.old at (hexadecimal width n)) × (result ≡ place_after out.old at (hexadecimal width n)) }
 {
     let mut text = [0u8; 16];
-    let k = least(width, 16);
+    let k = width.min(16);
     spell(n, 16, k, &mut text);
     put(out, at, &text[..k])
-}
-
-fn least(a: usize, b: usize) -> usize
-    ensures { result ≡ min a b }
-{
-    if a < b { a } else { b }
 }
 
 // Puts the last k digits of n in base at the start of out.
@@ -78,10 +60,8 @@ fn spell(n: u64, base: u64, k: usize, out: &mut [u8])
     requires k_in_bounds { k ≤ length out.old }
     ensures { take k out.new ≡ digits base k n }
 {
-    let mut i = k;
     let mut rest = n;
-    while i > 0 {
-        i -= 1;
+    for i in (0..k).rev() {
         out[i] = glyph(rest % base);
         rest /= base;
     }
@@ -100,18 +80,9 @@ fn glyph(d: u64) -> u8
 }
 
 // How many zeros stand in front, but for a last digit.
-#[tactic(auto, using(crate::proofs::Buffers::a_zero, crate::proofs::Buffers::at_last, crate::proofs::Buffers::not_zero))]
 fn zeros(text: &[u8]) -> usize
     ensures { (result ≤ length text.now) × (drop result text.now ≡ trimmed text.now) }
 {
-    let mut i = 0;
-    let mut next = 1;
-    while next < text.len() {
-        if text[i] != b'0' {
-            return i;
-        }
-        i = next;
-        next += 1;
-    }
-    i
+    let last = text.len().saturating_sub(1);
+    text.iter().position(|digit| *digit != b'0').unwrap_or(last)
 }

@@ -4,8 +4,5 @@ use lib.ListN.{length}
 use lib.Seq.{paste}
 use Rattle.text.proofs.put.Given as goal
 
-abbrev pub invariant-loop-i : goal.invariant-loop-i
-invariant-loop-i l = (l.i ≤ length l.text) × (l.i ≤ length l.initial.out - l.at) × (l.to ≡ l.at + l.i) × (length l.out ≡ length l.initial.out) × (l.out ≡ paste l.initial.out l.at l.text l.i)
-
-abbrev pub decreases-loop-i : goal.decreases-loop-i
-decreases-loop-i l = length l.text - l.i
+abbrev pub invariant-loop-byte : goal.invariant-loop-byte
+invariant-loop-byte l = (l.byte-index ≤ length l.initial.out - l.at) × (l.to ≡ l.at + l.byte-index) × (length l.out ≡ length l.initial.out) × (l.out ≡ paste l.initial.out l.at l.text l.byte-index)

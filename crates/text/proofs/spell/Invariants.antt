@@ -8,6 +8,3 @@ use Rattle.text.proofs.spell.Given as goal
 
 abbrev pub invariant-loop-i : goal.invariant-loop-i
 invariant-loop-i l = (length l.out ≡ length l.initial.out) × (l.i ≤ l.k) × (digits l.base l.i l.rest ++ slice l.i l.k l.out ≡ digits l.base l.k l.n)
-
-abbrev pub decreases-loop-i : goal.decreases-loop-i
-decreases-loop-i l = l.i
