@@ -19,14 +19,6 @@ pub(crate) struct Place {
     pub(crate) number: u64,
 }
 
-// An unfinished line: so many bytes at the front of the input, or one that is too long, of which
-// none are kept.
-#[derive(Clone, Copy)]
-struct Unfinished {
-    held: usize,
-    is_long: bool,
-}
-
 pub(crate) fn before_first() -> Place {
     Place {
         from: 0,
@@ -42,14 +34,7 @@ pub(crate) fn before_first() -> Place {
 }
 
 pub(crate) fn line_at(input: &[u8], place: Place) -> &[u8] {
-    let from = place.from;
-    let end = place.end;
-    if from <= end {
-        if end <= input.len() {
-            return &input[from..end];
-        }
-    }
-    &input[0..0]
+    input.get(place.from..place.end).unwrap_or_default()
 }
 
 pub(crate) fn next_line(
@@ -80,7 +65,7 @@ fn first_line(input: &[u8], place: Place) -> Place {
             is_rest_long: false,
             is_dry: false,
             is_last: place.is_last,
-            number: std::num::wrapping_add_u64(place.number, 1),
+            number: place.number.wrapping_add(1),
         };
     }
     Place {
@@ -107,12 +92,12 @@ fn newline(input: &[u8], from: usize, filled: usize) -> usize {
 // Reads once, after the unfinished line. At the end of the input that is the last line, and a newline
 // is put after it.
 fn read_more(stdin: &mut impl Read, stderr: &impl Print, input: &mut [u8], place: Place) -> Place {
-    let rest = keep_rest(input, place.next, place.filled, place.is_rest_long);
-    let held = rest.held;
+    let rest = keep_rest(input, place);
+    let held = rest.unwrap_or(0);
     let read = read_after(stdin, stderr, input, held);
     let mut more = place;
     more.next = 0;
-    more.is_rest_long = rest.is_long;
+    more.is_rest_long = rest.is_none();
     if read > held {
         more.filled = read;
         return more;
@@ -148,40 +133,20 @@ fn end_line(input: &mut [u8], held: usize) -> usize {
     held + 1
 }
 
-// Keeps the unfinished line, from `from` to `end`.
-fn keep_rest(input: &mut [u8], from: usize, end: usize, is_long: bool) -> Unfinished {
-    if is_long {
-        return Unfinished {
-            held: 0,
-            is_long: true,
-        };
+// Moves the unfinished line to the front and answers its length, or nothing where it is too long.
+fn keep_rest(input: &mut [u8], place: Place) -> Option<usize> {
+    let Place {
+        next,
+        filled,
+        is_rest_long,
+        ..
+    } = place;
+    if is_rest_long || filled.saturating_sub(next) > MAX_LINE {
+        return None;
     }
-    if from < end {
-        if end - from > MAX_LINE {
-            return Unfinished {
-                held: 0,
-                is_long: true,
-            };
-        }
+    if next > filled || filled > input.len() {
+        return Some(0);
     }
-    let held = move_to_front(input, from, end);
-    Unfinished {
-        held,
-        is_long: false,
-    }
-}
-
-// Moves the bytes from `from` to `end` to the front, and answers how many there are.
-fn move_to_front(input: &mut [u8], from: usize, end: usize) -> usize {
-    let mut i = 0;
-    let mut j = from;
-    while j < end {
-        if j >= input.len() {
-            return i;
-        }
-        input[i] = input[j];
-        i += 1;
-        j += 1;
-    }
-    i
+    input.copy_within(next..filled, 0);
+    Some(filled - next)
 }

@@ -1,12 +1,9 @@
 // The lines of the input are answered one after another. What is written gathers until the next read,
 // or until there is much of it.
-ghost use Rattle.std.specs.Prelude.{◌-◌, ◌≤◌};
-
 use crate::answer::answer;
 use crate::input::{Place, before_first, complain, line_at, next_line};
 use crate::notes::note;
 use crate::sessions;
-use crate::sessions::unstarted;
 use script::{Call, CallName, Fault};
 use std::io::{Print, Read};
 use text::put;
@@ -20,14 +17,12 @@ const FULL: usize = 49_152;
 enum Asked {
     Nothing,
     Session(Call),
-    NoSession,
     Other(Call),
     Bad(Fault),
 }
 
 // Reads and answers to the end of the input, or until an answer cannot be written. A proved loop has
-// to end, and nothing says that the input does, so the turns are counted down from a number that no
-// run uses up. The session is large, so that only the calls on it copy it.
+// to end, and nothing says that the input does, so the turns are as many as no run uses up.
 pub(crate) fn run(
     stdin: &mut impl Read,
     stdout: &impl Print,
@@ -36,53 +31,46 @@ pub(crate) fn run(
     output: &mut [u8],
     notes: &mut [u8],
 ) {
-    let mut state = unstarted();
+    let mut session = None;
     let mut place = before_first();
+    let mut to = 0;
     let mut noted = 0;
-    let mut turns = u64::MAX;
-    while turns > 0 {
+    for _ in 0..u64::MAX {
         place = next_line(stdin, stderr, input, place);
         let line = line_at(input, place);
-        let asked = asked_by(line, place.is_long, state.is_started);
+        let asked = asked_by(line, place.is_long);
         if let Asked::Session(call) = asked {
-            state = sessions::answer(state, call, line, output);
+            to = sessions::answer(&mut session, call, line, output, to);
         }
-        state.to = end_answer(stdout, asked, output, state.to, place.is_dry);
+        to = end_answer(stdout, asked, output, to, place.is_dry);
         noted = put_note(stderr, asked, line, place, notes, noted);
-        turns = turns_left(turns, place, state.to);
+        if is_over(place, to) {
+            break;
+        }
     }
-    finish(stderr, state.to);
+    if to > 0 {
+        complain(stderr, b"drive: the output cannot be written\n");
+    }
 }
 
-fn asked_by(line: &[u8], is_long: bool, is_started: bool) -> Asked {
+fn asked_by(line: &[u8], is_long: bool) -> Asked {
     if is_long {
         return Asked::Bad(Fault::LongLine);
     }
     match script::parse(line) {
-        Ok(Some(call)) => called(call, is_started),
+        Ok(Some(call)) if is_on_session(call.name) => Asked::Session(call),
+        Ok(Some(call)) => Asked::Other(call),
         Ok(None) => Asked::Nothing,
         Err(fault) => Asked::Bad(fault),
-    }
-}
-
-fn called(call: Call, is_started: bool) -> Asked {
-    match call.name {
-        CallName::StartLimits | CallName::StartModel => Asked::Session(call),
-        name if is_on_session(name) => {
-            if is_started {
-                Asked::Session(call)
-            } else {
-                Asked::NoSession
-            }
-        }
-        _ => Asked::Other(call),
     }
 }
 
 fn is_on_session(name: CallName) -> bool {
     matches!(
         name,
-        CallName::GetU32
+        CallName::StartLimits
+            | CallName::StartModel
+            | CallName::GetU32
             | CallName::GetF32
             | CallName::WriteU32
             | CallName::WriteF32
@@ -112,10 +100,7 @@ fn end_answer(
     is_dry: bool,
 ) -> usize {
     let at = put_answer(asked, output, to);
-    if is_dry {
-        return rest_after(stdout, output, at);
-    }
-    if at < FULL {
+    if !is_dry && at < FULL {
         return at;
     }
     rest_after(stdout, output, at)
@@ -125,7 +110,6 @@ fn put_answer(asked: Asked, output: &mut [u8], to: usize) -> usize {
     let at = match asked {
         Asked::Nothing => return to,
         Asked::Session(_) => to,
-        Asked::NoSession => put(output, to, b"no session"),
         Asked::Other(call) => answer(call, output, to),
         Asked::Bad(_) => put(output, to, b"bad line"),
     };
@@ -134,10 +118,8 @@ fn put_answer(asked: Asked, output: &mut [u8], to: usize) -> usize {
 
 // Writes out what has gathered, and answers what is left of it: nothing, or all where a write failed.
 fn rest_after(stdout: &impl Print, output: &[u8], to: usize) -> usize {
-    if to <= output.len() {
-        if stdout.write_all(&output[0..to]).is_ok() {
-            return 0;
-        }
+    if to <= output.len() && stdout.write_all(&output[..to]).is_ok() {
+        return 0;
     }
     to
 }
@@ -155,34 +137,16 @@ fn put_note(
         Asked::Bad(fault) => note(fault, line, place.number, notes, to),
         _ => to,
     };
-    if !place.is_dry {
-        if at < FULL {
-            return at;
-        }
+    if !place.is_dry && at < FULL {
+        return at;
     }
     if at <= notes.len() {
-        let _ = stderr.write_all(&notes[0..at]);
+        let _ = stderr.write_all(&notes[..at]);
     }
     0
 }
 
-// None once the last line is answered, or answers could not be written.
-fn turns_left(turns: u64, place: Place, unwritten: usize) -> u64
-    ensures { result ≤ turns - 1 }
-{
-    if place.is_dry {
-        if place.is_last {
-            return 0;
-        }
-        if unwritten > 0 {
-            return 0;
-        }
-    }
-    if turns > 0 { turns - 1 } else { 0 }
-}
-
-fn finish(stderr: &impl Print, unwritten: usize) {
-    if unwritten > 0 {
-        complain(stderr, b"drive: the output cannot be written\n");
-    }
+// Once the last line is answered, or answers could not be written.
+fn is_over(place: Place, unwritten: usize) -> bool {
+    place.is_dry && (place.is_last || unwritten > 0)
 }

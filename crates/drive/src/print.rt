@@ -1,4 +1,5 @@
 // Pieces of answers.
+use motor_core::error::Refusal;
 use protocol_status::{StatusName, status_text};
 use text::{put, put_decimal, put_hex};
 
@@ -15,18 +16,17 @@ pub(crate) fn put_next(output: &mut [u8], to: usize, number: u64) -> usize {
 
 // The words, and 1 or 0.
 pub(crate) fn put_flag(output: &mut [u8], to: usize, words: &[u8], flag: bool) -> usize {
-    put_numbered(output, to, words, if flag { 1 } else { 0 })
+    put_numbered(output, to, words, u64::from(flag))
 }
 
-pub(crate) fn put_refused(number: u8, output: &mut [u8], to: usize) -> usize {
-    put_numbered(output, to, b"refused ", number as u64)
+pub(crate) fn put_refused(refusal: Refusal, output: &mut [u8], to: usize) -> usize {
+    put_numbered(output, to, b"refused ", u64::from(u8::from(refusal)))
 }
 
 // A space and the float's bits.
 fn put_real(output: &mut [u8], to: usize, x: f32) -> usize {
-    let pattern = float::to_bits(x);
     let at = put(output, to, b" ");
-    put_hex(output, at, pattern.0 as u64, 8)
+    put_hex(output, at, u64::from(float::to_bits(x).0), 8)
 }
 
 // What a motor measures, a space before each.
@@ -46,18 +46,13 @@ pub(crate) fn put_measured(
     put_real(output, at, t_rotor)
 }
 
-// The first `len` bytes of a name.
-pub(crate) fn put_name(bytes: &[u8], len: usize, output: &mut [u8], to: usize) -> usize {
-    if len <= bytes.len() {
-        return put(output, to, &bytes[0..len]);
-    }
-    to
+// A space and the word.
+pub(crate) fn put_word(word: &[u8], output: &mut [u8], to: usize) -> usize {
+    let at = put(output, to, b" ");
+    put(output, at, word)
 }
 
 // A space and the name of a status.
 pub(crate) fn put_status_name(name: StatusName, output: &mut [u8], to: usize) -> usize {
-    let spelled = status_text(name);
-    let bytes = spelled.bytes;
-    let at = put(output, to, b" ");
-    put_name(&bytes, spelled.len as usize, output, at)
+    put_word(status_text(name).as_bytes(), output, to)
 }

@@ -1,7 +1,9 @@
 // The calls on what a frame says, and on the tables of status names and registers.
 use crate::fields::{real_at, u8_at, u64_at};
 use crate::print::{put_measured, put_next, put_numbered, put_refused, put_status_name};
-use protocol_feedback::{Decoded, SensorFeedback};
+use motor_core::error::Refusal;
+use motor_core::model::Maxima;
+use protocol_feedback::{SensorFeedback, decode_feedback};
 use protocol_received::FrameClass;
 use registers::{RegisterAccess, RegisterDataType, RegisterInfo};
 use script::{Call, CallName};
@@ -16,29 +18,33 @@ pub(crate) fn answer(call: Call, output: &mut [u8], to: usize) -> usize {
     }
 }
 
-fn decoded(call: Call) -> Decoded {
-    protocol_feedback::decode_feedback(
-        real_at(call, 0),
-        real_at(call, 1),
-        real_at(call, 2),
-        protocol_frame::data_bytes(u64_at(call, 3)),
-    )
+fn decoded(call: Call) -> Result<SensorFeedback, Refusal> {
+    let maxima = Maxima {
+        p_max: real_at(call, 0),
+        v_max: real_at(call, 1),
+        t_max: real_at(call, 2),
+    };
+    decode_feedback(maxima, protocol_frame::data_bytes(u64_at(call, 3)))
 }
 
 fn class(data: u64) -> FrameClass {
     protocol_received::frame_class(protocol_frame::data_bytes(data))
 }
 
-fn put_decoded(decoded: Decoded, output: &mut [u8], to: usize) -> usize {
+fn put_decoded(
+    decoded: Result<SensorFeedback, Refusal>,
+    output: &mut [u8],
+    to: usize,
+) -> usize {
     match decoded {
-        Decoded::Feedback(feedback) => put_feedback(feedback, output, to),
-        Decoded::Refused(number) => put_refused(number, output, to),
+        Ok(feedback) => put_feedback(feedback, output, to),
+        Err(refusal) => put_refused(refusal, output, to),
     }
 }
 
 fn put_feedback(feedback: SensorFeedback, output: &mut [u8], to: usize) -> usize {
-    let at = put_numbered(output, to, b"feedback ", feedback.can_id as u64);
-    let at = put_next(output, at, feedback.status_code as u64);
+    let at = put_numbered(output, to, b"feedback ", u64::from(feedback.can_id));
+    let at = put_next(output, at, u64::from(feedback.status_code));
     put_measured(
         output,
         at,
@@ -63,12 +69,12 @@ fn put_status(status: u8, output: &mut [u8], to: usize) -> usize {
     put_status_name(protocol_status::status_name(status), output, at)
 }
 
-fn put_register(info: RegisterInfo, output: &mut [u8], to: usize) -> usize {
-    let RegisterInfo::Known(access, data_type) = info else {
+fn put_register(info: Option<RegisterInfo>, output: &mut [u8], to: usize) -> usize {
+    let Some(info) = info else {
         return put(output, to, b"register unknown");
     };
-    let at = put_type(data_type, output, to);
-    put_access(access, output, at)
+    let at = put_type(info.data_type, output, to);
+    put_access(info.access, output, at)
 }
 
 fn put_type(data_type: RegisterDataType, output: &mut [u8], to: usize) -> usize {

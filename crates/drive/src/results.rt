@@ -1,47 +1,38 @@
 // What a start or an answer returns: the run's next want, or its result.
+use crate::commands::put_frame;
 use crate::print::{put_numbered, put_refused};
 use crate::values::{put_feedback_state, put_value};
+use motor_core::error::Refusal;
 use registers::RegisterValue;
-use run_machine::RunResult;
+use run_machine::{Outcome, RunResult};
 use run_want::Failure;
 use session_step::{Told, Wanted};
 use state_feedback::MotorFeedbackState;
-use text::{put, put_hex};
-use time::Duration;
+use text::put;
 
-pub(crate) fn put_told(told: Told, output: &mut [u8], to: usize) -> usize {
+pub(crate) fn put_told(told: Result<Told, Refusal>, output: &mut [u8], to: usize) -> usize {
     match told {
-        Told::Want(want) => put_want(want, output, to),
-        Told::Result(result) => put_result(result, output, to),
-        Told::Refused(number) => put_refused(number, output, to),
+        Ok(Told::Want(want)) => put_want(want, output, to),
+        Ok(Told::Result(result)) => put_result(result, output, to),
+        Err(refusal) => put_refused(refusal, output, to),
     }
 }
 
 fn put_want(want: Wanted, output: &mut [u8], to: usize) -> usize {
     match want {
         Wanted::Clock => put(output, to, b"want clock"),
-        Wanted::Send(id, data) => put_send(id, data, output, to),
-        Wanted::Sleep(length) => put_sleep(length, output, to),
+        Wanted::Send(command) => put_frame(b"want send ", command, output, to),
+        Wanted::Sleep(length) => put_numbered(output, to, b"want sleep ", length.0),
     }
-}
-
-fn put_send(id: u32, data: u64, output: &mut [u8], to: usize) -> usize {
-    let at = put_numbered(output, to, b"want send ", id as u64);
-    let at = put(output, at, b" ");
-    put_hex(output, at, data, 16)
-}
-
-fn put_sleep(length: Duration, output: &mut [u8], to: usize) -> usize {
-    put_numbered(output, to, b"want sleep ", length.0)
 }
 
 fn put_result(res: RunResult, output: &mut [u8], to: usize) -> usize {
     match res {
-        RunResult::Done => put(output, to, b"done"),
-        RunResult::Value(value) => put_worded(b"done", value, output, to),
-        RunResult::State(state) => put_state(state, output, to),
-        RunResult::NoState => put(output, to, b"no-state"),
-        RunResult::Failed(failure) => put_failure(failure, output, to),
+        Ok(Outcome::Done) => put(output, to, b"done"),
+        Ok(Outcome::Value(value)) => put_worded(b"done", value, output, to),
+        Ok(Outcome::State(Some(state))) => put_state(state, output, to),
+        Ok(Outcome::State(None)) => put(output, to, b"no-state"),
+        Err(failure) => put_failure(failure, output, to),
     }
 }
 

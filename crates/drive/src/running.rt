@@ -1,7 +1,7 @@
 // The calls that start a run, and those that answer what it wants.
 use crate::fields::{u8_at, u32_at, u64_at};
 use float::F32Bits;
-use run_want::{Answer, SendResult};
+use run_want::{Answer, SendError};
 use script::{Call, CallName};
 use session::Session;
 use session_answer::{AfterCall, answer_run};
@@ -31,21 +31,21 @@ fn write(session: Session, call: Call) -> AfterCall {
 
 pub(crate) fn turn(session: Session, call: Call) -> AfterCall {
     match call.name {
-        CallName::GetU32 | CallName::GetF32 => return read(session, call),
-        CallName::WriteU32 | CallName::WriteF32 => return write(session, call),
-        CallName::FreshState => return request_fresh_state(session, Duration(u64_at(call, 0))),
-        CallName::Store => return store_parameters(session),
-        CallName::Mode => return ensure_control_mode(session, u32_at(call, 0), timeout(call)),
-        _ => return answer_run(session, answer_of(call)),
+        CallName::GetU32 | CallName::GetF32 => read(session, call),
+        CallName::WriteU32 | CallName::WriteF32 => write(session, call),
+        CallName::FreshState => request_fresh_state(session, Duration(u64_at(call, 0))),
+        CallName::Store => store_parameters(session),
+        CallName::Mode => ensure_control_mode(session, u32_at(call, 0), timeout(call)),
+        _ => answer_run(session, answer_of(call)),
     }
 }
 
 fn answer_of(call: Call) -> Answer {
     match call.name {
         CallName::Clock => Answer::Reading(Instant(u64_at(call, 0))),
-        CallName::Sent => Answer::Send(SendResult::Sent),
-        CallName::SendTimeout => Answer::Send(SendResult::Timeout),
-        CallName::SendFailed => Answer::Send(SendResult::Failed),
+        CallName::Sent => Answer::Send(Ok(())),
+        CallName::SendTimeout => Answer::Send(Err(SendError::Timeout)),
+        CallName::SendFailed => Answer::Send(Err(SendError::Failed)),
         _ => Answer::Slept,
     }
 }

@@ -5,11 +5,10 @@ use state_feedback::MotorFeedbackState;
 use text::{put, put_hex};
 
 pub(crate) fn put_feedback_state(state: MotorFeedbackState, output: &mut [u8], to: usize) -> usize {
-    let name = state.status_name;
-    let at = put_next(output, to, state.can_id as u64);
-    let at = put_next(output, at, state.arbitration_id as u64);
-    let at = put_next(output, at, state.status_code as u64);
-    let at = put_status_name(name, output, at);
+    let at = put_next(output, to, u64::from(state.can_id));
+    let at = put_next(output, at, u64::from(state.arbitration_id));
+    let at = put_next(output, at, u64::from(state.status_code));
+    let at = put_status_name(state.status_name, output, at);
     put_measured(
         output,
         at,
@@ -22,7 +21,7 @@ pub(crate) fn put_feedback_state(state: MotorFeedbackState, output: &mut [u8], t
 }
 
 pub(crate) fn put_value(value: RegisterValue, output: &mut [u8], to: usize) -> usize {
-    let bits = registers::value_bits(value) as u64;
+    let bits = u64::from(registers::value_bits(value));
     if registers::holds_u32(value) {
         return put_numbered(output, to, b" u32 ", bits);
     }
