@@ -11,8 +11,8 @@ use script_words::Kind;
 // The bytes that a line may have.
 pub const MAX_LINE: usize = 4095;
 
-// A line's call and its arguments, in their order, with zeros after them. A name's argument is its
-// length.
+// A line's call and its arguments, in their order, with zeros after them: there is no heap for a list
+// of its own length. A name's argument is its length.
 #[derive(Clone, Copy, PartialEq, Eq, Debug)]
 pub struct Call {
     pub name: CallName,

@@ -32,7 +32,9 @@ pub fn index_of(s: &[u8], from: usize, byte: u8) -> usize
 pub fn word_at(line: &[u8], place: usize) -> &[u8]
     ensures { result.now ≡ word_at place (split line.now) }
 {
-    line.split(|byte| *byte == b' ').nth(place).unwrap_or_default()
+    line.split(|byte| *byte == b' ')
+        .nth(place)
+        .unwrap_or_default()
 }
 
 // The word after the first: the name in a line of `start-model`. Empty where there is none.

@@ -56,8 +56,8 @@ pub fn number(word: &[u8]) -> Option<u64>
 pub fn field(kind: Kind, word: &[u8]) -> Option<u64>
     ensures { result ≡ field_of kind word.now }
 {
-    if kind == Kind::Name {
-        return (!word.is_empty()).then_some(word.len() as u64);
+    match kind {
+        Kind::Name => (!word.is_empty()).then_some(word.len() as u64),
+        _ => number(word).filter(|value| *value <= kind.limit()),
     }
-    number(word).filter(|value| *value <= kind.limit())
 }

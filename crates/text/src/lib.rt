@@ -19,15 +19,11 @@ pub fn same_bytes(a: &[u8], b: &[u8]) -> bool
 pub fn put(out: &mut [u8], at: usize, text: &[u8]) -> usize
     ensures { (out.new ≡ put_at out.old at text.now) × (result ≡ place_after out.old at text.now) }
 {
-    let mut to = at;
-    for byte in text {
-        if to >= out.len() {
-            return to;
-        }
-        out[to] = *byte;
-        to += 1;
+    let count = text.len().min(out.len().saturating_sub(at));
+    if count > 0 {
+        out[at..at + count].copy_from_slice(&text[..count]);
     }
-    to
+    at + count
 }
 
 // Puts `n` in decimal.
