@@ -9,8 +9,8 @@ use float::{F32Bits, of_bits};
 use motor_core::error::Refusal;
 use motor_core::model::PvTLimits;
 use protocol_setpoint::{
-    MitSetpoint,    encode_force_pos_cmd, encode_mit_cmd, encode_pos_vel_cmd, encode_vel_cmd, force_pos_id,
-    pos_vel_id, vel_id,
+    MitSetpoint, encode_force_pos_cmd, encode_mit_cmd, encode_pos_vel_cmd, encode_vel_cmd,
+    force_pos_id, pos_vel_id, vel_id,
 };
 
 #[derive(Clone, Copy)]

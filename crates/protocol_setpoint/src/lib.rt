@@ -52,8 +52,18 @@ pub fn encode_mit_cmd(setpoint: MitSetpoint, limits: PvTLimits) -> u64
     ensures { result ≡ Spec.mit_data limits setpoint }
 {
     mit_fields(
-        float_to_uint(setpoint.target_position, limits.p_min, limits.p_max, Width::Sixteen),
-        float_to_uint(setpoint.target_velocity, limits.v_min, limits.v_max, Width::Twelve),
+        float_to_uint(
+            setpoint.target_position,
+            limits.p_min,
+            limits.p_max,
+            Width::Sixteen,
+        ),
+        float_to_uint(
+            setpoint.target_velocity,
+            limits.v_min,
+            limits.v_max,
+            Width::Twelve,
+        ),
         float_to_uint(setpoint.stiffness, 0.0, KP_MAX, Width::Twelve),
         float_to_uint(setpoint.damping, 0.0, KD_MAX, Width::Twelve),
         float_to_uint(
@@ -104,11 +114,7 @@ pub fn encode_force_pos_cmd(
 }
 
 #[tactic(auto, unfolding(crate::specs::Setpoint::mit_cmd))]
-pub fn mit_cmd(
-    motor_id: u16,
-    maxima: Maxima,
-    setpoint: MitSetpoint,
-) -> Result<Command, Refusal>
+pub fn mit_cmd(motor_id: u16, maxima: Maxima, setpoint: MitSetpoint) -> Result<Command, Refusal>
     ensures { result ≡ Spec.mit_cmd motor_id maxima setpoint }
 {
     let limits = from_maxima(maxima)?;
@@ -135,7 +141,11 @@ pub fn force_pos_id(motor_id: u16) -> u32
 }
 
 #[tactic(auto, unfolding(protocol_frame::specs::Command::frame_for))]
-pub fn pos_vel_cmd(motor_id: u16, target_position: F32Bits, velocity_limit: F32Bits) -> Result<Command, Refusal>
+pub fn pos_vel_cmd(
+    motor_id: u16,
+    target_position: F32Bits,
+    velocity_limit: F32Bits,
+) -> Result<Command, Refusal>
     ensures { result ≡ Spec.pos_vel_cmd motor_id target_position.0 velocity_limit.0 }
 {
     let data = encode_pos_vel_cmd(target_position, velocity_limit);

@@ -2,7 +2,7 @@
 use mathlib.Core.Path.{◌≡◌, ap}
 use Prim.Native.Nat.{ℕ}
 use mathlib.Core.Bool.{Bool, true, cond}
-use Rattle.std.specs.Prelude.{Option, Some, None}
+use Rattle.std.specs.Prelude.{Some, None}
 use Rattle.registers.specs.Registers.{known, access_of, data_type_of, info_of}
 use Rattle.registers.specs.declared.RegisterInfo.{RegisterInfo}
 

@@ -39,9 +39,9 @@ module _ (s : Session) where
 
 module _ (s : Session) (frame : CanFrame) (t : Instant) where
   -- a step that was made, put back
-  pub lent_taken : (step : FrameStep) → frame_step s.head frame t ≡ Ok step → take_frame s frame t ≡ record { session = put_back s step; outcome = Ok tt }
+  pub by_parts : (step : FrameStep) → frame_step s.head frame t ≡ Ok step → take_frame s frame t ≡ record { session = put_back s step; outcome = Ok tt }
   unfolding take_frame frame_step
-  lent_taken step = go (frame_outcome s.head frame t)
+  by_parts step = go (frame_outcome s.head frame t)
     where
       whole : FrameStep
       whole = taken_step s.head frame.arbitration_id (says s.head frame) t
@@ -68,10 +68,10 @@ module _ (s : Session) (frame : CanFrame) (t : Instant) where
 -- as the code comes to it: r is what the step gave, k what it keeps
 module _ (s : Session) (frame : CanFrame) (t : Instant) (r : Result FrameStep Refusal) (gave : r ≡ frame_step s.head frame t) where
   pub taken_outcome : (step : FrameStep) → r ≡ Ok step → Ok tt ≡ (take_frame s frame t).outcome
-  taken_outcome step e = ap (λ (a : AfterFrame). a.outcome) (sym (lent_taken s frame t step (sym gave ∙ e)))
+  taken_outcome step e = ap (λ (a : AfterFrame). a.outcome) (sym (by_parts s frame t step (sym gave ∙ e)))
 
   pub taken_session : (step : FrameStep) (k : Kept) → r ≡ Ok step → step.kept ≡ k → put_kept (with_head s step.head) k ≡ (take_frame s frame t).session
-  taken_session step k e kept = ap (put_kept (with_head s step.head)) (sym kept) ∙ ap (λ (a : AfterFrame). a.session) (sym (lent_taken s frame t step (sym gave ∙ e)))
+  taken_session step k e kept = ap (put_kept (with_head s step.head)) (sym kept) ∙ ap (λ (a : AfterFrame). a.session) (sym (by_parts s frame t step (sym gave ∙ e)))
 
   pub refused_outcome : (refusal : Refusal) → r ≡ Err refusal → Err refusal ≡ (take_frame s frame t).outcome
   refused_outcome refusal e = ap (λ (a : AfterFrame). a.outcome) (sym (lent_refused s frame t refusal (sym gave ∙ e)))

@@ -1,6 +1,7 @@
 -- What a patch changes of the latest record, and what it does not reach. Assumes nothing.
 use Prim.Native.Nat.{ℕ}
-use mathlib.Core.Path.{◌≡◌, refl, ap}
+use mathlib.Core.Path.{◌≡◌, refl, sym, ap}
+use Rattle.motor_core.proofs.Turned.{clash}
 use Rattle.std.specs.Prelude.{Option, Some, None, is_some, option_map}
 use Rattle.float.specs.Arithmetic.{float}
 use Rattle.protocol_status.specs.Status.{status_name}
@@ -15,6 +16,16 @@ module _ (cache : FeedbackCache) (status mos rotor : ℕ) where
       go : (l : Option FeedbackSnapshot) → is_some (option_map (patched cache status mos rotor) l) ≡ is_some l
       go None = refl
       go (Some s) = refl
+
+  pub patch_sequence : (after : FeedbackCache) → patch_latest cache status mos rotor ≡ Some after → after.sequence ≡ cache.sequence
+  patch_sequence after = go cache.latest
+    where
+      the_same : (x : FeedbackCache) → Some x ≡ Some after → x ≡ after
+      the_same x h = cc
+
+      go : (l : Option FeedbackSnapshot) → option_map (patched cache status mos rotor) l ≡ Some after → after.sequence ≡ cache.sequence
+      go None h = absurd (clash (cc))
+      go (Some s) h = sym (ap (λ (c : FeedbackCache). c.sequence) (the_same (patched cache status mos rotor s) h))
 
   pub patch_held : (s : FeedbackSnapshot) → cache.latest ≡ Some s → patch_latest cache status mos rotor ≡ Some (patched cache status mos rotor s)
   patch_held s e = ap (option_map (patched cache status mos rotor)) e

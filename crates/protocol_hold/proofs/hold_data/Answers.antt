@@ -1,7 +1,6 @@
 -- `protocol_hold::hold_data` meets its contract. Assumes nothing.
 use mathlib.Core.Path.{sym, ap, ◌∙◌}
 use lib.Ieee.{of_bits, of_int}
-use Rattle.float.specs.Arithmetic.{float}
 use Rattle.protocol_setpoint.specs.Setpoint.{mit_data}
 use Rattle.protocol_hold.specs.Mode.{still_at, hold_data}
 use Rattle.protocol_hold.proofs.hold_data.Goals as goal
