@@ -2,7 +2,6 @@
 use Rattle.std.specs.Prelude.{ℕ, cond, Option, Some, None, Result, Ok, Err}
 use Rattle.motor_core.specs.Outcome.{and_then}
 use Rattle.motor_core.specs.declared.error.Refusal.{Refusal}
-use Rattle.motor_core.specs.declared.error.Refusal.TheVariants as Refusal
 use Rattle.time.specs.Time.{timeout_accepted}
 use Rattle.time.specs.declared.Duration.{Duration}
 use Rattle.registers.specs.Registers.{known, info_of}

@@ -14,7 +14,6 @@ use Rattle.run_wait.specs.declared.Wait.TheVariants.{Checking}
 use Rattle.run_wait.specs.declared.ask.Ask.{Ask}
 use Rattle.run_wait.specs.declared.ask.Ask.TheVariants.{Waiting}
 use Rattle.run_wait.specs.declared.Waited.{Waited}
-use Rattle.run_wait.specs.declared.Waited.TheVariants as Waited
 use Rattle.run_want.specs.Step.{Stepped, goes, ends}
 use Rattle.run_want.specs.declared.step.Step.{Step}
 use Rattle.run_want.specs.declared.step.Step.TheVariants.{Goes, Ends}

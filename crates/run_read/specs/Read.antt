@@ -22,7 +22,6 @@ use Rattle.run_wait.specs.declared.Wait.TheVariants.{Checking}
 use Rattle.run_wait.specs.declared.ask.Ask.{Ask}
 use Rattle.run_wait.specs.declared.ask.Ask.TheVariants.{Waiting}
 use Rattle.run_wait.specs.declared.Waited.{Waited}
-use Rattle.run_wait.specs.declared.Waited.TheVariants as Waited
 
 abbrev pub read_want : ℕ → Ask → Want
 read_want rid ask = ask_want (ReadRegister rid) ask

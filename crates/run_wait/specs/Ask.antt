@@ -1,7 +1,6 @@
 -- Asking: reads and fresh-state requests open before their send. Definitions only.
 use Rattle.std.specs.Prelude.{Result, Ok}
 use Rattle.motor_core.specs.Outcome.{and_then}
-use Rattle.time.specs.declared.Instant.{Instant}
 use Rattle.time.specs.declared.Duration.{Duration}
 use Rattle.run_want.specs.Want.{reading_of, send_outcome}
 use Rattle.run_want.specs.declared.Answer.{Answer}

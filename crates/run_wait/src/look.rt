@@ -17,10 +17,7 @@ pub fn fresh_entry(opening: Instant, entry: Entry) -> Entry
 }
 
 // The latest record if it is fresh.
-pub fn fresh_record(
-    opening: Instant,
-    latest: Option<FeedbackSnapshot>,
-) -> Option<FeedbackSnapshot>
+pub fn fresh_record(opening: Instant, latest: Option<FeedbackSnapshot>) -> Option<FeedbackSnapshot>
     ensures { result ≡ Spec.fresh_record opening latest }
 {
     latest.filter(|snapshot| opening <= snapshot.received_at)

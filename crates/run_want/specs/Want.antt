@@ -6,7 +6,6 @@ use Rattle.run_want.specs.declared.Want.TheVariants.{Clock, Send, Sleep}
 use Rattle.run_want.specs.declared.Answer.{Answer}
 use Rattle.run_want.specs.declared.Answer.TheVariants.{Reading, Send as Sending, Slept}
 use Rattle.run_want.specs.declared.Failure.{Failure}
-use Rattle.run_want.specs.declared.Failure.TheVariants as Failure
 use Rattle.run_want.specs.declared.SendError.{SendError}
 use Rattle.run_want.specs.declared.SendError.TheVariants.{Timeout, Failed}
 

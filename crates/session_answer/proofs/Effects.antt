@@ -1,11 +1,10 @@
 -- What an answer does to a session, and what it leaves alone. Assumes nothing.
-use Prim.Native.Nat.{ℕ, ◌≤◌, ◌^◌}
+use Prim.Native.Nat.{◌≤◌, ◌^◌}
 use mathlib.Core.Path.{◌≡◌, refl, ap, ◌∙◌, subst}
 use mathlib.Core.Bool.{Bool, true, cond}
 use native.Mathlib.Nat.{le_refl}
 use Rattle.std.specs.Prelude.{Option, Some, None, Result, Ok, Err}
 use Rattle.motor_core.specs.declared.error.Refusal.{Refusal}
-use Rattle.motor_core.specs.declared.error.Refusal.TheVariants as Refusal
 use Rattle.time.specs.declared.Instant.{Instant}
 use Rattle.time.proofs.Readings.{between, in_order}
 use Rattle.state_cache.specs.declared.Entry.{Entry}

@@ -7,7 +7,6 @@ use Rattle.session.specs.declared.Head.{Head}
 use Rattle.session.specs.declared.Session.{Session}
 use Rattle.session_step.specs.Parts.{caller_want}
 use Rattle.session_step.specs.declared.Told.{Told}
-use Rattle.session_step.specs.declared.Told.TheVariants as Told
 use Rattle.session_step.specs.declared.Wanted.{Wanted}
 use Rattle.session_answer.specs.declared.AfterCall.{AfterCall}
 

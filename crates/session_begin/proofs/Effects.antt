@@ -2,7 +2,6 @@
 use mathlib.Core.Path.{◌≡◌, refl}
 use Rattle.std.specs.Prelude.{Option, Some, None, Result, Ok, Err}
 use Rattle.motor_core.specs.declared.error.Refusal.{Refusal}
-use Rattle.motor_core.specs.declared.error.Refusal.TheVariants as Refusal
 use Rattle.run_machine.specs.declared.Machine.{Machine}
 use Rattle.session.specs.declared.Session.{Session}
 use Rattle.session_answer.specs.Effects.{ToldTruly, Unchanged}

@@ -2,7 +2,6 @@
 use Rattle.std.specs.Prelude.{ℕ, Option, Some, None, Result, Ok, Err}
 use Rattle.float.specs.declared.F32Bits.{F32Bits}
 use Rattle.motor_core.specs.declared.error.Refusal.{Refusal}
-use Rattle.motor_core.specs.declared.error.Refusal.TheVariants as Refusal
 use Rattle.time.specs.declared.Duration.{Duration}
 use Rattle.registers.specs.Value.{value_of}
 use Rattle.registers.specs.declared.RegisterDataType.TheVariants.{Float, UInt32}

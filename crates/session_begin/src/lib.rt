@@ -16,10 +16,7 @@ use session_step::{Told, caller_want};
 use time::Duration;
 
 // The machine of a start, where no run is open.
-fn start_step(
-    run: Option<Machine>,
-    start: Result<Machine, Refusal>,
-) -> Result<Machine, Refusal>
+fn start_step(run: Option<Machine>, start: Result<Machine, Refusal>) -> Result<Machine, Refusal>
     ensures { result ≡ Spec.start_step run start }
 {
     if run.is_some() {

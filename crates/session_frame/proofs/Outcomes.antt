@@ -1,9 +1,8 @@
 -- When a frame is taken. Assumes nothing.
 use Rattle.motor_core.proofs.Turned.{clash}
-use Prim.Native.Nat.{ℕ, ◌≤◌, ◌^◌}
+use Prim.Native.Nat.{◌≤◌, ◌^◌}
 use mathlib.Core.Path.{◌≡◌, refl, ap}
 use mathlib.Core.Bool.{Bool, true, false, cond}
-use native.Mathlib.Omega.{arith}
 use Rattle.std.specs.Prelude.{Ok, Err}
 use Rattle.motor_core.specs.declared.error.Refusal.TheVariants as Refusal
 use Rattle.time.specs.Time.{reading_accepted}

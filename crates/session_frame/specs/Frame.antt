@@ -2,7 +2,6 @@
 use Rattle.std.specs.Prelude.{ℕ, cond, List, set, Result, Ok, Err, None, Option, Some}
 use Rattle.motor_core.specs.Outcome.{and_then}
 use Rattle.motor_core.specs.declared.error.Refusal.{Refusal}
-use Rattle.motor_core.specs.declared.error.Refusal.TheVariants as Refusal
 use Rattle.time.specs.Time.{reading_accepted}
 use Rattle.motor_core.specs.declared.bus.CanFrame.{CanFrame}
 use Rattle.time.specs.declared.Instant.{Instant}

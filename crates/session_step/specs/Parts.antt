@@ -1,7 +1,6 @@
 -- An answer to a run, in the small parts of a session. Definitions only.
 use Rattle.std.specs.Prelude.{Bool, true, cond, Option, Some, None, Result, Ok, Err}
 use Rattle.motor_core.specs.declared.error.Refusal.{Refusal}
-use Rattle.motor_core.specs.declared.error.Refusal.TheVariants as Refusal
 use Rattle.protocol_frame.specs.Command.{command}
 use Rattle.time.specs.Time.{reading_accepted}
 use Rattle.time.specs.declared.Instant.{Instant}
@@ -21,9 +20,7 @@ use Rattle.run_step.specs.Step.{machine_step}
 use Rattle.session.specs.Session.{with_last}
 use Rattle.session.specs.declared.Head.{Head}
 use Rattle.session_step.specs.declared.Told.{Told}
-use Rattle.session_step.specs.declared.Told.TheVariants as Told
 use Rattle.session_step.specs.declared.Wanted.{Wanted}
-use Rattle.session_step.specs.declared.Wanted.TheVariants as Wanted
 use Rattle.session_step.specs.declared.AnswerStep.{AnswerStep}
 
 -- a want in the caller's terms: a send by the id and bytes of its message's frame

@@ -11,7 +11,6 @@ use Rattle.state_cache.specs.declared.Entry.{Entry}
 use Rattle.run_want.specs.Want.{reading_of, send_outcome}
 use Rattle.run_want.specs.declared.Answer.{Answer}
 use Rattle.run_want.specs.declared.Failure.{Failure}
-use Rattle.run_want.specs.declared.Failure.TheVariants as Failure
 use Rattle.run_wait.specs.declared.ask.Ask.{Ask}
 use Rattle.run_wait.specs.declared.ask.Ask.TheVariants.{Opening}
 use Rattle.run_read.specs.Read.{get_step}

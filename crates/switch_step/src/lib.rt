@@ -157,8 +157,6 @@ pub fn switch_step(
 {
     match switch {
         Switch::Starting => started(deadline_after(reading_of(answer), timeout)),
-        Switch::Begun(progress, stage) => stage_step(
-            mode, timeout, entry, progress, stage, answer,
-        ),
+        Switch::Begun(progress, stage) => stage_step(mode, timeout, entry, progress, stage, answer),
     }
 }

@@ -60,7 +60,11 @@ pub fn after_finish(verifies_left: u8, progress: Progress, next: Finishing) -> S
 pub fn slept(mode: ControlMode, verifies_left: u8, progress: Progress) -> Stepped<Switch, ()>
     ensures { result ≡ Spec.slept mode verifies_left progress }
 {
-    after_finish(verifies_left, progress, finish(mode, progress.hold_position))
+    after_finish(
+        verifies_left,
+        progress,
+        finish(mode, progress.hold_position),
+    )
 }
 
 // The settling sleep, as long as there is time for it.
