@@ -35,7 +35,7 @@ fn uint_to_float(x: u16, x_min: f32, x_max: f32, width: Width) -> f32
 fn joined(high: u8, low: u8) -> u16
     ensures { (result ≡ high * 256 + low) × (low < 256) }
 {
-    (high as u16) * 256 + (low as u16)
+    u16::from_be_bytes([high, low])
 }
 
 #[tactic(auto, unfolding(protocol_codes::specs::Codes::uint_to_float))]

@@ -2,7 +2,7 @@
 // is one number of 64 bits, of which d0 is the highest byte.
 #![tactic(auto)]
 
-ghost use Rattle.std.specs.Prelude.{◌≡◌, ◌%◌};
+ghost use Rattle.std.specs.Prelude.{◌≡◌};
 ghost use Rattle.protocol_frame.specs.Layout.{packed, little_endian, data_bytes};
 ghost use Rattle.protocol_frame.specs.Command as Spec;
 
@@ -20,16 +20,7 @@ pub struct Command {
 pub fn reversed(n: u32) -> u32
     ensures { result ≡ packed (little_endian 4 n) }
 {
-    let b1 = n / 256;
-    let b2 = b1 / 256;
-    let high = n % 256 * 0x100_0000 + b1 % 256 * 0x1_0000;
-    high + b2 % 256 * 256 + b2 / 256
-}
-
-fn low_byte(n: u64) -> u8
-    ensures { result ≡ n % 256 }
-{
-    (n % 256) as u8
+    n.swap_bytes()
 }
 
 // The eight data bytes, d0 first, for the caller to send.
@@ -37,16 +28,7 @@ fn low_byte(n: u64) -> u8
 pub fn data_bytes(data: u64) -> [u8; 8]
     ensures { result ≡ data_bytes «data» }
 {
-    [
-        low_byte(data / 0x100_0000_0000_0000),
-        low_byte(data / 0x1_0000_0000_0000),
-        low_byte(data / 0x100_0000_0000),
-        low_byte(data / 0x1_0000_0000),
-        low_byte(data / 0x100_0000),
-        low_byte(data / 0x1_0000),
-        low_byte(data / 0x100),
-        low_byte(data),
-    ]
+    data.to_be_bytes()
 }
 
 // The frame, unless the motor id is refused.

@@ -69,19 +69,12 @@ pub fn frame_class(data: [u8; 8]) -> FrameClass
     }
 }
 
-// Four bytes as one number, the lowest first.
-fn word(b0: u8, b1: u8, b2: u8, b3: u8) -> u32
-    ensures { result ≡ b0 + b1 * 0x100 + b2 * 0x1_0000 + b3 * 0x100_0000 }
-{
-    let high = (b3 as u32) * 256 + (b2 as u32);
-    (high * 256 + (b1 as u32)) * 256 + (b0 as u32)
-}
-
 // The 32 bits in d4 to d7 as a value of a type.
 fn register_value(data: [u8; 8], data_type: RegisterDataType) -> RegisterValue
     ensures { result ≡ Spec.typed_value data_type «data» }
 {
-    registers::value_from_bits(data_type, word(data[4], data[5], data[6], data[7]))
+    let bits = u32::from_le_bytes([data[4], data[5], data[6], data[7]]);
+    registers::value_from_bits(data_type, bits)
 }
 
 // Sorts a frame and reads it. Any six limits, as for `decode_sensor_feedback`.

@@ -96,8 +96,7 @@ pub fn encode_vel_cmd(target_velocity: F32Bits) -> u64
 fn swapped(n: u16) -> u64
     ensures { result ≡ n % 256 * 256 + n / 256 }
 {
-    let wide = n as u64;
-    wide % 256 * 256 + wide / 256
+    n.swap_bytes() as u64
 }
 
 pub fn encode_force_pos_cmd(
