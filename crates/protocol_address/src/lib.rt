@@ -14,9 +14,9 @@ pub fn accepts_frame(frame: CanFrame, motor_id: u16, feedback_id: u16) -> bool
     if frame.is_extended {
         return false;
     }
-    if frame.arbitration_id == (feedback_id as u32) {
+    if frame.arbitration_id == u32::from(feedback_id) {
         return true;
     }
     let data = frame.data;
-    frame.dlc > 0 && ((data[0] % 16) as u16) == motor_id % 16
+    frame.dlc > 0 && u16::from(data[0] % 16) == motor_id % 16
 }

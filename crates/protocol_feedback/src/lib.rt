@@ -28,7 +28,7 @@ fn uint_to_float(x: u16, x_min: f32, x_max: f32, width: Width) -> f32
     ensures { result ≡ uint_to_float (bits_in width) x x_min x_max }
 {
     let span = x_max - x_min;
-    (x as f32) * span / full_scale(width) + x_min
+    f32::from(x) * span / full_scale(width) + x_min
 }
 
 // Two bytes as one number, the first the higher.
@@ -65,7 +65,7 @@ fn torque(data: [u8; 8], limits: PvTLimits) -> f32
 fn temperature(byte: u8) -> f32
     ensures { result ≡ float byte }
 {
-    byte as f32
+    f32::from(byte)
 }
 
 // Any six limits: a session's come from `from_maxima`, and the definition holds for others too.

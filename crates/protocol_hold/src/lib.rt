@@ -52,7 +52,7 @@ pub fn hold_id(motor_id: u16, mode: ControlMode) -> u32
     ensures { result ≡ Spec.hold_id motor_id mode }
 {
     match mode {
-        ControlMode::Mit => motor_id as u32,
+        ControlMode::Mit => u32::from(motor_id),
         ControlMode::PosVel => pos_vel_id(motor_id),
         ControlMode::Vel => vel_id(motor_id),
         ControlMode::ForcePos => force_pos_id(motor_id),

@@ -23,9 +23,8 @@ const CLEAR_ERROR: u64 = 0xffff_ffff_ffff_fffb;
 fn addressed(motor_id: u16, d2: u8, d3: u8, word: u32) -> u64
     ensures { result ≡ Spec.addressed motor_id (byte d2 ∷ byte d3 ∷ field 32 word ∷ []) }
 {
-    let id = motor_id as u64;
-    let head = id % 256 * 256 + id / 256;
-    ((head * 256 + (d2 as u64)) * 256 + (d3 as u64)) * 0x1_0000_0000 + (word as u64)
+    let head = u64::from(motor_id.swap_bytes());
+    ((head * 256 + u64::from(d2)) * 256 + u64::from(d3)) * 0x1_0000_0000 + u64::from(word)
 }
 
 #[tactic(auto, unfolding(crate::specs::Request::register_read_data))]
@@ -103,19 +102,19 @@ pub fn feedback_request_cmd(motor_id: u16) -> Result<Command, Refusal>
 pub fn disable_cmd(motor_id: u16) -> Result<Command, Refusal>
     ensures { result ≡ Spec.disable_cmd motor_id }
 {
-    protocol_frame::frame_for(motor_id, motor_id as u32, encode_disable_cmd())
+    protocol_frame::frame_for(motor_id, u32::from(motor_id), encode_disable_cmd())
 }
 
 #[tactic(auto, unfolding(crate::specs::Request::special))]
 pub fn set_zero_cmd(motor_id: u16) -> Result<Command, Refusal>
     ensures { result ≡ Spec.set_zero_cmd motor_id }
 {
-    protocol_frame::frame_for(motor_id, motor_id as u32, SET_ZERO)
+    protocol_frame::frame_for(motor_id, u32::from(motor_id), SET_ZERO)
 }
 
 #[tactic(auto, unfolding(crate::specs::Request::special))]
 pub fn clear_error_cmd(motor_id: u16) -> Result<Command, Refusal>
     ensures { result ≡ Spec.clear_error_cmd motor_id }
 {
-    protocol_frame::frame_for(motor_id, motor_id as u32, CLEAR_ERROR)
+    protocol_frame::frame_for(motor_id, u32::from(motor_id), CLEAR_ERROR)
 }

@@ -41,9 +41,9 @@ fn float_to_uint(x: f32, x_min: f32, x_max: f32, width: Width) -> u32
 fn mit_fields(pos: u32, vel: u32, kp: u32, kd: u32, torq: u32) -> u64
     ensures { result ≡ Spec.mit_fields pos vel kp kd torq }
 {
-    let high = ((pos % 0x1_0000) as u64) * 0x1000 + ((vel % 0x1000) as u64);
-    let gains = ((kp % 0x1000) as u64) * 0x1000 + ((kd % 0x1000) as u64);
-    (high * 0x100_0000 + gains) * 0x1000 + ((torq % 0x1000) as u64)
+    let high = u64::from(pos % 0x1_0000) * 0x1000 + u64::from(vel % 0x1000);
+    let gains = u64::from(kp % 0x1000) * 0x1000 + u64::from(kd % 0x1000);
+    (high * 0x100_0000 + gains) * 0x1000 + u64::from(torq % 0x1000)
 }
 
 // Any six limits: a session's and those of `mit_cmd` come from `from_maxima`, and the definition holds
@@ -81,7 +81,7 @@ pub fn encode_pos_vel_cmd(target_position: F32Bits, velocity_limit: F32Bits) -> 
 {
     let high = protocol_frame::reversed(target_position.0);
     let low = protocol_frame::reversed(velocity_limit.0);
-    (high as u64) * 0x1_0000_0000 + (low as u64)
+    u64::from(high) * 0x1_0000_0000 + u64::from(low)
 }
 
 #[tactic(auto, unfolding(crate::specs::Setpoint::vel_data))]
@@ -89,14 +89,14 @@ pub fn encode_vel_cmd(target_velocity: F32Bits) -> u64
     ensures { result ≡ Spec.vel_data target_velocity.0 }
 {
     let high = protocol_frame::reversed(target_velocity.0);
-    (high as u64) * 0x1_0000_0000
+    u64::from(high) * 0x1_0000_0000
 }
 
 // A number's two bytes, lowest first.
 fn swapped(n: u16) -> u64
     ensures { result ≡ n % 256 * 256 + n / 256 }
 {
-    n.swap_bytes() as u64
+    u64::from(n.swap_bytes())
 }
 
 pub fn encode_force_pos_cmd(
@@ -109,7 +109,7 @@ pub fn encode_force_pos_cmd(
     let high = protocol_frame::reversed(target_position.0);
     let v_des = float::as_u16(float::clamp(velocity_limit, 0.0, 100.0) * 100.0);
     let i_des = float::as_u16(float::clamp(torque_limit_ratio, 0.0, 1.0) * 10000.0);
-    (high as u64) * 0x1_0000_0000 + swapped(v_des) * 0x1_0000 + swapped(i_des)
+    u64::from(high) * 0x1_0000_0000 + swapped(v_des) * 0x1_0000 + swapped(i_des)
 }
 
 #[tactic(auto, unfolding(crate::specs::Setpoint::mit_cmd))]
@@ -117,26 +117,30 @@ pub fn mit_cmd(motor_id: u16, maxima: Maxima, setpoint: MitSetpoint) -> Result<C
     ensures { result ≡ Spec.mit_cmd motor_id maxima setpoint }
 {
     let limits = from_maxima(maxima)?;
-    protocol_frame::frame_for(motor_id, motor_id as u32, encode_mit_cmd(setpoint, limits))
+    protocol_frame::frame_for(
+        motor_id,
+        u32::from(motor_id),
+        encode_mit_cmd(setpoint, limits),
+    )
 }
 
 // Where position-velocity, velocity and force-position setpoints go; MIT goes to the motor id itself.
 pub fn pos_vel_id(motor_id: u16) -> u32
     ensures { result ≡ Spec.pos_vel_id motor_id }
 {
-    0x100 + (motor_id as u32)
+    0x100 + u32::from(motor_id)
 }
 
 pub fn vel_id(motor_id: u16) -> u32
     ensures { result ≡ Spec.vel_id motor_id }
 {
-    0x200 + (motor_id as u32)
+    0x200 + u32::from(motor_id)
 }
 
 pub fn force_pos_id(motor_id: u16) -> u32
     ensures { result ≡ Spec.force_pos_id motor_id }
 {
-    0x300 + (motor_id as u32)
+    0x300 + u32::from(motor_id)
 }
 
 #[tactic(auto, unfolding(protocol_frame::specs::Command::frame_for))]

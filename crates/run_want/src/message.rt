@@ -30,7 +30,7 @@ pub fn message_id(motor_id: u16, message: Message) -> u32
         Message::ReadRegister(_) => REQUEST_ID,
         Message::WriteRegister(_, _) => REQUEST_ID,
         Message::RequestFeedback => REQUEST_ID,
-        Message::Disable => motor_id as u32,
+        Message::Disable => u32::from(motor_id),
         Message::StoreParams => REQUEST_ID,
         Message::Setpoint(mode, _) => hold_id(motor_id, mode),
     }

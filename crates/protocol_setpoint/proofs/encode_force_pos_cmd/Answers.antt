@@ -7,5 +7,5 @@ use Rattle.protocol_setpoint.proofs.encode_force_pos_cmd.Goals as goal
 
 pub returns : goal.returns
 unfolding force_pos_data scaled of_bits of_int
-returns c = rw (c.swapped-2.ensures, c.swapped.ensures, c.as_u16-i_des.ensures, c.clamp-2.ensures, c.as_u16-v_des.ensures, c.clamp.ensures, c.reversed-high.ensures)
+returns c = rw (c.swapped-2.ensures, c.swapped.ensures, c.as_u16-i_des.ensures, c.clamp-2.ensures, c.as_u16-v_des.ensures, c.clamp.ensures, c.from.ensures, c.reversed-high.ensures)
     (two_words _ _ _ (to_unsigned-lt 16 _) (to_unsigned-lt 16 _))
