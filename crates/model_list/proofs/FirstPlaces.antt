@@ -24,19 +24,19 @@ set_next xs x h =
     rest n m h = omega arith
 
 -- the place after the first `count` is `at`
-module _ (count at : ℕ) (names xs : List Name) (x : Name) (is : at ≡ count) (first : take count names ≡ xs) (only : OnlyFirst count names) (room : length xs < model_places) where
+module _ (count at : ℕ) (names xs : List Name) (x : Name) (is : at ≡ count) (first : take count names ≡ xs) (only : OnlyFirst count names) (room : at < model_places) where
   counted : count ≡ length xs
   counted = only.counted ∙ ap length first
 
   set_is : set names at x ≡ in_places (xs ++ (x ∷ []))
-  set_is = (λ i. set (only.empty_after i) (is i) x) ∙ (λ i. set (in_places (first i)) (counted i) x) ∙ set_next xs x room
+  set_is = (λ i. set (only.empty_after i) (is i) x) ∙ (λ i. set (in_places (first i)) (counted i) x) ∙ set_next xs x (omega (arith, counted, is, room))
 
   next_count : count + 1 ≡ length (xs ++ (x ∷ []))
   next_count = ap (λ (k : ℕ). k + 1) counted ∙ sym (length-append xs (x ∷ []))
 
-  pub first_next : take (count + 1) (set names at x) ≡ xs ++ (x ∷ [])
+  first_next : take (count + 1) (set names at x) ≡ xs ++ (x ∷ [])
   unfolding in_places
   first_next = (λ i. take (next_count i) (set_is i)) ∙ take-append_seam (xs ++ (x ∷ [])) _
 
   pub only_next : OnlyFirst (count + 1) (set names at x)
-  only_next = record { room = omega (arith, counted); counted = next_count ∙ ap length (sym first_next); empty_after = set_is ∙ ap in_places (sym first_next) }
+  only_next = record { room = omega (arith, is, room); counted = next_count ∙ ap length (sym first_next); empty_after = set_is ∙ ap in_places (sym first_next) }

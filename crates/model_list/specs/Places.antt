@@ -1,5 +1,5 @@
 -- Names in a fixed number of places. Definitions only.
-use Rattle.std.specs.Prelude.{ℕ, ◌-◌, ◌≤◌, ◌≡◌, List, ◌++◌, length, replicate, take}
+use Rattle.std.specs.Prelude.{ℕ, ◌-◌, ◌≤◌, ◌≡◌, cond, ltb, List, [], ◌∷◌, ◌++◌, length, replicate, take}
 use Rattle.motor_core.specs.Name.{name_of}
 use Rattle.motor_core.specs.declared.name.Name.{Name}
 
@@ -10,6 +10,10 @@ model_places = 16
 -- names, the places after them empty
 unfoldable pub in_places : List Name → List Name
 in_places names = names ++ replicate (model_places - length names) (name_of "")
+
+-- a name put last, if there is room
+unfoldable pub with_last : List Name → Name → List Name
+with_last names name = cond (ltb (length names) model_places) (names ++ name ∷ []) names
 
 -- the first `count` places have names, and the others are empty
 pub record OnlyFirst (count : ℕ) (names : List Name) : Type 0 where

@@ -1,9 +1,10 @@
 // A list of models, and a model's limits by its name.
 #![tactic(auto)]
 
-ghost use Rattle.std.specs.Prelude.{◌≡◌, ◌<◌, ◌≤◌, min, [], ◌∷◌, ◌++◌, length};
+ghost use Rattle.std.specs.Prelude.{◌≡◌, ◌≤◌, min, [], length};
 ghost use Rattle.model_list.specs.Counted.{model_places, models_of};
 ghost use Rattle.model_list.specs.Models.{limits_by_name};
+ghost use Rattle.model_list.specs.Places.{with_last};
 
 use motor_core::error::Refusal;
 use motor_core::model::Maxima;
@@ -85,13 +86,16 @@ impl Names {
         &self.names[..usize::from(self.count)]
     }
 
-    // Puts a name last.
+    // Puts a name last, if there is room.
+    #[tactic(auto, unfolding(crate::specs::Places::with_last))]
     pub fn push(&mut self, name: Name)
-        requires { length self.old < model_places }
-        ensures { self.new ≡ self.old ++ name ∷ [] }
+        ensures { self.new ≡ with_last self.old name }
     {
-        self.names[usize::from(self.count)] = name;
-        self.count += 1;
+        let count = usize::from(self.count);
+        if count < MODEL_PLACES {
+            self.names[count] = name;
+            self.count += 1;
+        }
     }
 }
 

@@ -22,7 +22,7 @@ pub fn display_model_name(model: Name) -> Name
 }
 
 // Puts a name last, unless it is there.
-#[tactic(auto, unfolding(crate::specs::Display::among, crate::specs::Display::with_name))]
+#[tactic(auto, unfolding(crate::specs::Display::among, crate::specs::Display::with_name, model_list::specs::Places::with_last))]
 fn show(shown: &mut Names, name: Name)
     requires { length shown.old < model_places }
     ensures { shown.new ≡ Spec.with_name shown.old name }

@@ -1,9 +1,6 @@
 // Inputs of eight bytes each, a frame's data, random.
-ghost use Rattle.std.specs.Prelude.{◌+◌, ◌≤◌, length};
-
-use crate::random::next;
+use crate::random::{Inputs, next};
 use protocol_frame::data_bytes;
-use text::put;
 
 // Low feedback has a position so low that d2 decides, and that of unknown registers looks like a
 // reply.
@@ -57,7 +54,7 @@ fn unknown_register(random: &mut u64) -> u8 {
 
 fn register_frame(marker: u8, rid: u8, random: &mut u64) -> [u8; 8] {
     let mut data = data_bytes(next(random));
-    data[1] = data[1] % 16;
+    data[1] %= 16;
     data[2] = marker;
     data[3] = rid;
     data
@@ -65,17 +62,15 @@ fn register_frame(marker: u8, rid: u8, random: &mut u64) -> [u8; 8] {
 
 fn feedback(random: &mut u64) -> [u8; 8] {
     let mut data = data_bytes(next(random));
-    if data[1] < 16 {
-        if is_marker(data[2]) {
-            data[1] = 16;
-        }
+    if data[1] < 16 && is_marker(data[2]) {
+        data[1] = 16;
     }
     data
 }
 
 fn low_feedback(random: &mut u64) -> [u8; 8] {
     let mut data = data_bytes(next(random));
-    data[1] = data[1] % 16;
+    data[1] %= 16;
     if is_marker(data[2]) {
         data[2] = 0;
     }
@@ -101,27 +96,12 @@ fn frame(kind: Frames, random: &mut u64) -> [u8; 8] {
     }
 }
 
-pub(crate) fn fill(frames: &mut [u8], kind: Frames, random: &mut u64) {
-    let count = frames.len() / 8;
-    let mut at = 0;
-    for k in 0..count {
-        let data = frame(kind, random);
-        at = put(frames, at, &data);
-    }
-}
+impl Inputs for Frames {
+    type Input = [u8; 8];
 
-// The eight bytes from `at` on.
-pub(crate) fn data_at(frames: &[u8], at: usize) -> [u8; 8]
-    requires { at + 8 ≤ length frames.now }
-{
-    [
-        frames[at],
-        frames[at + 1],
-        frames[at + 2],
-        frames[at + 3],
-        frames[at + 4],
-        frames[at + 5],
-        frames[at + 6],
-        frames[at + 7],
-    ]
+    fn fill(self, inputs: &mut [[u8; 8]], random: &mut u64) {
+        for data in inputs {
+            *data = frame(self, random);
+        }
+    }
 }

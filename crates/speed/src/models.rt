@@ -1,6 +1,4 @@
 // Queries of the model list. The checksum has every name that is listed, in order.
-ghost use Rattle.std.specs.Prelude.{◌+◌, ◌<◌, ◌≤◌, length};
-
 use crate::sums::mixed;
 use model_damiao::damiao_models;
 use model_list::{ModelList, Names};
@@ -9,20 +7,11 @@ use model_query::Query;
 use model_suggest::suggest_models_by_limits;
 use motor_core::name::Name;
 
-fn wide(byte: u8) -> u64
-    ensures { result < 256 }
-{
-    byte as u64
-}
-
 // The length and the first four bytes of a name.
 fn code(name: &Name) -> u64 {
     let bytes = name.bytes;
-    wide(name.len)
-        + wide(bytes[0]) * 0x100
-        + wide(bytes[1]) * 0x1_0000
-        + wide(bytes[2]) * 0x100_0000
-        + wide(bytes[3]) * 0x1_0000_0000
+    let first = u32::from_le_bytes([bytes[0], bytes[1], bytes[2], bytes[3]]);
+    u64::from(name.len) + u64::from(first) * 0x100
 }
 
 fn names_total(names: &Names) -> u64 {
@@ -33,51 +22,37 @@ fn names_total(names: &Names) -> u64 {
     sum
 }
 
-fn query_at(xs: &[f32], at: usize) -> Query
-    requires { at + 3 ≤ length xs.now }
-{
+fn query(input: [f32; 5]) -> Query {
     Query {
-        p: xs[at],
-        v: xs[at + 1],
-        t: xs[at + 2],
+        p: input[0],
+        v: input[1],
+        t: input[2],
     }
 }
 
 // A query's names are made and read where nothing goes round, so that the compiler need not copy them.
-fn matched_total(list: &ModelList, xs: &[f32], at: usize) -> u64
-    requires { at + 5 ≤ length xs.now }
-{
-    match match_models_by_limits(list, query_at(xs, at), xs[at + 3]) {
-        Ok(names) => names_total(&names),
-        Err(_) => 0,
-    }
+fn matched_total(list: &ModelList, input: [f32; 5]) -> u64 {
+    match_models_by_limits(list, query(input), input[3]).map_or(0, |names| names_total(&names))
 }
 
-fn suggested_total(list: &ModelList, xs: &[f32], at: usize) -> u64
-    requires { at + 5 ≤ length xs.now }
-{
-    match suggest_models_by_limits(list, query_at(xs, at), 3) {
-        Ok(names) => names_total(&names),
-        Err(_) => 0,
-    }
+fn suggested_total(list: &ModelList, input: [f32; 5]) -> u64 {
+    suggest_models_by_limits(list, query(input), 3).map_or(0, |names| names_total(&names))
 }
 
-pub(crate) fn match_all(xs: &[f32]) -> u64 {
+pub(crate) fn match_all(inputs: &[[f32; 5]]) -> u64 {
     let list = damiao_models();
-    let mut sum: u64 = 0;
-    let count = xs.len() / 5;
-    for k in 0..count {
-        sum = mixed(sum, matched_total(&list, xs, k * 5));
+    let mut sum = 0;
+    for input in inputs {
+        sum = mixed(sum, matched_total(&list, *input));
     }
     sum
 }
 
-pub(crate) fn suggest_all(xs: &[f32]) -> u64 {
+pub(crate) fn suggest_all(inputs: &[[f32; 5]]) -> u64 {
     let list = damiao_models();
-    let mut sum: u64 = 0;
-    let count = xs.len() / 5;
-    for k in 0..count {
-        sum = mixed(sum, suggested_total(&list, xs, k * 5));
+    let mut sum = 0;
+    for input in inputs {
+        sum = mixed(sum, suggested_total(&list, *input));
     }
     sum
 }

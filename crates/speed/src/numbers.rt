@@ -1,5 +1,5 @@
 // Inputs of five floats each, random.
-use crate::random::{between, next};
+use crate::random::{Inputs, between, next};
 use model_damiao::damiao_models;
 use model_list::MODEL_PLACES;
 use motor_core::model::Maxima;
@@ -89,24 +89,17 @@ fn any_model(random: &mut u64) -> Maxima {
     damiao_models().models[place].maxima
 }
 
-// An input's first number goes by a new model.
-fn model_for(column: usize, model: Maxima, random: &mut u64) -> Maxima {
-    if column == 0 {
-        return any_model(random);
-    }
-    model
-}
+// The numbers of an input go by one model.
+impl Inputs for Numbers {
+    type Input = [f32; 5];
 
-pub(crate) fn fill(numbers: &mut [f32], kind: Numbers, random: &mut u64) {
-    let mut model = Maxima {
-        p_max: 0.0,
-        v_max: 0.0,
-        t_max: 0.0,
-    };
-    for i in 0..numbers.len() {
-        let column = i % 5;
-        model = model_for(column, model, random);
-        let range = range_of(kind, column, model);
-        numbers[i] = between(range.low, range.high, random);
+    fn fill(self, inputs: &mut [[f32; 5]], random: &mut u64) {
+        for input in inputs {
+            let model = any_model(random);
+            for (column, number) in input.iter_mut().enumerate() {
+                let range = range_of(self, column, model);
+                *number = between(range.low, range.high, random);
+            }
+        }
     }
 }

@@ -1,10 +1,17 @@
-// Random numbers from a seed, by xorshift.
+// Random numbers from a seed, by xorshift, and inputs that are made of them.
+
+// Which inputs a row has.
+pub(crate) trait Inputs {
+    type Input;
+
+    fn fill(self, inputs: &mut [Self::Input], random: &mut u64);
+}
 
 pub(crate) fn next(random: &mut u64) -> u64 {
     let mut x = *random;
-    x = x ^ (x << 13);
-    x = x ^ (x >> 7);
-    x = x ^ (x << 17);
+    x ^= x << 13;
+    x ^= x >> 7;
+    x ^= x << 17;
     *random = x;
     x
 }
@@ -12,6 +19,6 @@ pub(crate) fn next(random: &mut u64) -> u64 {
 // From low up to high.
 pub(crate) fn between(low: f32, high: f32, random: &mut u64) -> f32 {
     let places = next(random) / 0x100_0000_0000;
-    let unit = std::num::nearest_u32_to_f32(places as u32) / 16_777_216.0;
+    let unit = (places as f32) / 16_777_216.0;
     low + (high - low) * unit
 }

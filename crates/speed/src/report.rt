@@ -11,14 +11,11 @@ fn microseconds(time: Duration) -> u64 {
 // The processor time of this program so far, in microseconds, which is what C's clock counts. 0 where
 // it cannot be read.
 pub(crate) fn clock(rt: &impl CpuClock) -> u64 {
-    match rt.process_cpu_time() {
-        Ok(time) => microseconds(time),
-        Err(_) => 0,
-    }
+    rt.process_cpu_time().map_or(0, microseconds)
 }
 
 fn nanoseconds(begun: u64, ended: u64) -> u64 {
-    let took = std::num::wrapping_sub_u64(ended, begun);
+    let took = ended.wrapping_sub(begun);
     if took < 1_000_000_000_000 {
         return took * 1_000;
     }

@@ -1,7 +1,6 @@
 // A session reads register 10, writes it or switches the mode, which that register is, once for each
 // frame. The motor answers every frame that is sent at once. The checksum has what the calls tell and
 // all that a frame may change.
-use crate::frames::data_at;
 use crate::sessions::{frame_of, session_4310, session_total};
 use crate::sums::mixed;
 use motor_core::bus::CanFrame;
@@ -137,10 +136,10 @@ fn after_answers(mut line: Line, count: u64) -> Line {
     line
 }
 
-// The k-th run. The motor has the frame's value if it is read; a write is of it; a switch is to mode
-// 2 if k is even, else to 1. The readings of a read or a write are its place; of switches the clock
+// The run of a place. The motor has the frame's value if it is read; a write is of it; a switch is to mode
+// 2 if the place is even, else to 1. The readings of a read or a write are its place; of switches the clock
 // stands but for sleeps.
-fn one_run(kind: Kind, line: Line, data: [u8; 8], k: u64) -> Line {
+fn one_run(kind: Kind, line: Line, data: [u8; 8], place: u64) -> Line {
     let session = line.turn.session;
     let Line {
         value, now, sum, ..
@@ -148,22 +147,22 @@ fn one_run(kind: Kind, line: Line, data: [u8; 8], k: u64) -> Line {
     match kind {
         Kind::Read => {
             let begun = get_register_u32(session, 10, READ_TIMEOUT);
-            after_answers(told(begun, value_in(data), Instant(k), sum), 2)
+            after_answers(told(begun, value_in(data), Instant(place), sum), 2)
         }
         Kind::Write => {
             let begun = write_register_u32(session, 10, value_in(data));
-            after_answers(told(begun, value, Instant(k), sum), 2)
+            after_answers(told(begun, value, Instant(place), sum), 2)
         }
         Kind::Switch => {
-            let begun = ensure_control_mode(session, (2 - k % 2) as u32, SWITCH_TIMEOUT);
+            let begun = ensure_control_mode(session, (2 - place % 2) as u32, SWITCH_TIMEOUT);
             after_answers(told(begun, value, now, sum), 19)
         }
     }
 }
 
-fn after_runs(kind: Kind, mut line: Line, frames: &[u8]) -> Line {
-    for k in 0..frames.len() / 8 {
-        line = one_run(kind, line, data_at(frames, k * 8), k as u64);
+fn after_runs(kind: Kind, mut line: Line, frames: &[[u8; 8]]) -> Line {
+    for (place, data) in frames.iter().enumerate() {
+        line = one_run(kind, line, *data, place as u64);
     }
     line
 }
@@ -181,11 +180,11 @@ fn at_first(session: Session) -> Line {
     }
 }
 
-fn runs_total(kind: Kind, session: Session, frames: &[u8]) -> u64 {
+fn runs_total(kind: Kind, session: Session, frames: &[[u8; 8]]) -> u64 {
     let line = after_runs(kind, at_first(session), frames);
     mixed(line.sum, session_total(line.turn.session))
 }
 
-pub(crate) fn run_all(kind: Kind, frames: &[u8]) -> u64 {
+pub(crate) fn run_all(kind: Kind, frames: &[[u8; 8]]) -> u64 {
     session_4310().map_or(0, |session| runs_total(kind, session, frames))
 }

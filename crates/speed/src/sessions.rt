@@ -1,5 +1,4 @@
 // A session of motor 1, model 4310, takes frames. The checksum has everything that a frame may change.
-use crate::frames::data_at;
 use crate::sums::{float_bits, mixed};
 use motor_core::bus::CanFrame;
 use motor_core::model::Maxima;
@@ -29,24 +28,14 @@ pub(crate) fn frame_of(data: [u8; 8]) -> CanFrame {
     }
 }
 
-// The k-th frame; past the last one, eight zeros.
-pub(crate) fn frame_number(frames: &[u8], k: usize) -> CanFrame {
-    if k < frames.len() / 8 {
-        frame_of(data_at(frames, k * 8))
-    } else {
-        frame_of([0; 8])
-    }
-}
-
 // A frame's reading is its place.
-pub(crate) fn take(frames: &[u8]) -> u64 {
+pub(crate) fn take(frames: &[[u8; 8]]) -> u64 {
     session_4310().map_or(0, |session| session_total(after_frames(frames, session)))
 }
 
-fn after_frames(frames: &[u8], mut session: Session) -> Session {
-    for k in 0..frames.len() / 8 {
-        let frame = frame_of(data_at(frames, k * 8));
-        session = take_frame(session, frame, Instant(k as u64)).session;
+fn after_frames(frames: &[[u8; 8]], mut session: Session) -> Session {
+    for (place, data) in frames.iter().enumerate() {
+        session = take_frame(session, frame_of(*data), Instant(place as u64)).session;
     }
     session
 }
