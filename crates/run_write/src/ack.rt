@@ -13,6 +13,7 @@ use time::{Duration, Instant};
 // In nanoseconds.
 const WRITE_REGISTER_ACK_TIMEOUT: Duration = Duration(50_000_000);
 
+// A state of a run as the others are: as an `Option`, the one before the wait would have no name.
 #[derive(Clone, Copy)]
 pub enum AckWait {
     Opening,

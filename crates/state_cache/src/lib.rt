@@ -9,6 +9,7 @@ use motor_core::error::Refusal;
 use registers::RegisterValue;
 use time::Instant;
 
+// What the motor last said of a register. The two cases are named by the request that this is built to.
 #[derive(Clone, Copy)]
 pub enum Entry {
     Empty,

@@ -9,6 +9,7 @@ use protocol_hold::ControlMode;
 use run_want::Failure;
 
 // A hold frame is wanted, or the switch goes on to verify.
+// As a flag it would say neither.
 #[derive(Clone, Copy)]
 pub enum Finishing {
     Holds,

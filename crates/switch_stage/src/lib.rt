@@ -30,6 +30,7 @@ pub struct Progress {
 }
 
 // The first read of the mode, or one that verifies it, with the number of those after it.
+// As an `Option`, the first read would have no name.
 #[derive(Clone, Copy)]
 pub enum ModeRead {
     First,
@@ -52,6 +53,7 @@ pub enum Stage {
 }
 
 // Before its first reading a switch keeps nothing.
+// A state of a run as the others are: as an `Option`, the first would have no name.
 #[derive(Clone, Copy)]
 pub enum Switch {
     Starting,
