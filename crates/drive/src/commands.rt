@@ -55,11 +55,7 @@ fn mit(call: Call) -> Result<Command, Refusal> {
     protocol_setpoint::mit_cmd(u16_at(call, 0), maxima, setpoint)
 }
 
-pub(crate) fn put_command(
-    made: Result<Command, Refusal>,
-    output: &mut [u8],
-    to: usize,
-) -> usize {
+pub(crate) fn put_command(made: Result<Command, Refusal>, output: &mut [u8], to: usize) -> usize {
     match made {
         Ok(command) => put_frame(b"frame ", command, output, to),
         Err(refusal) => put_refused(refusal, output, to),

@@ -31,11 +31,7 @@ fn class(data: u64) -> FrameClass {
     protocol_received::frame_class(protocol_frame::data_bytes(data))
 }
 
-fn put_decoded(
-    decoded: Result<SensorFeedback, Refusal>,
-    output: &mut [u8],
-    to: usize,
-) -> usize {
+fn put_decoded(decoded: Result<SensorFeedback, Refusal>, output: &mut [u8], to: usize) -> usize {
     match decoded {
         Ok(feedback) => put_feedback(feedback, output, to),
         Err(refusal) => put_refused(refusal, output, to),

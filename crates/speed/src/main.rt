@@ -48,9 +48,25 @@ fn row<K: Inputs, F: FnOnce(&[K::Input]) -> u64>(
 
 fn setpoint_rows(rt: &(impl Print + CpuClock), t: bool, r: &mut u64, xs: &mut Floats) {
     let within = Numbers::Setpoints(0.0);
-    row(rt, "encode MIT, within the limits", within, t, r, xs, protocol::encode);
+    row(
+        rt,
+        "encode MIT, within the limits",
+        within,
+        t,
+        r,
+        xs,
+        protocol::encode,
+    );
     let beyond = Numbers::Setpoints(0.25);
-    row(rt, "encode MIT, a third beyond", beyond, t, r, xs, protocol::encode);
+    row(
+        rt,
+        "encode MIT, a third beyond",
+        beyond,
+        t,
+        r,
+        xs,
+        protocol::encode,
+    );
 }
 
 fn model_rows(rt: &(impl Print + CpuClock), t: bool, r: &mut u64, xs: &mut Floats) {
@@ -65,29 +81,149 @@ fn model_rows(rt: &(impl Print + CpuClock), t: bool, r: &mut u64, xs: &mut Float
 fn frame_rows(rt: &(impl Print + CpuClock), t: bool, r: &mut u64) {
     let mut frames: Sorted = [[0; 8]; 262_144];
     let fs = &mut frames;
-    row(rt, "decode feedback", Frames::Feedback, t, r, fs, protocol::decode);
-    row(rt, "sort replies", Frames::Replies, t, r, fs, protocol::sort);
+    row(
+        rt,
+        "decode feedback",
+        Frames::Feedback,
+        t,
+        r,
+        fs,
+        protocol::decode,
+    );
+    row(
+        rt,
+        "sort replies",
+        Frames::Replies,
+        t,
+        r,
+        fs,
+        protocol::sort,
+    );
     row(rt, "sort acks", Frames::Acks, t, r, fs, protocol::sort);
-    row(rt, "sort feedback", Frames::Feedback, t, r, fs, protocol::sort);
+    row(
+        rt,
+        "sort feedback",
+        Frames::Feedback,
+        t,
+        r,
+        fs,
+        protocol::sort,
+    );
     let low = Frames::LowFeedback;
-    row(rt, "sort feedback, d1 up to 0F", low, t, r, fs, protocol::sort);
+    row(
+        rt,
+        "sort feedback, d1 up to 0F",
+        low,
+        t,
+        r,
+        fs,
+        protocol::sort,
+    );
     let unknown = Frames::UnknownRegisters;
-    row(rt, "sort unknown registers", unknown, t, r, fs, protocol::sort);
-    row(rt, "sort, a third of each class", Frames::Mixed, t, r, fs, protocol::sort);
+    row(
+        rt,
+        "sort unknown registers",
+        unknown,
+        t,
+        r,
+        fs,
+        protocol::sort,
+    );
+    row(
+        rt,
+        "sort, a third of each class",
+        Frames::Mixed,
+        t,
+        r,
+        fs,
+        protocol::sort,
+    );
 }
 
 fn session_rows(rt: &(impl Print + CpuClock), t: bool, r: &mut u64) {
     let mut frames: Taken = [[0; 8]; 50_000];
     let fs = &mut frames;
-    row(rt, "take feedback frames, lent", Frames::Feedback, t, r, fs, lent::take_lent);
-    row(rt, "take replies, lent", Frames::Replies, t, r, fs, lent::take_lent);
-    row(rt, "take, a third of each class, lent", Frames::Mixed, t, r, fs, lent::take_lent);
-    row(rt, "take feedback frames, by value", Frames::Feedback, t, r, fs, sessions::take);
-    row(rt, "take replies, by value", Frames::Replies, t, r, fs, sessions::take);
-    row(rt, "take, a third of each class, by value", Frames::Mixed, t, r, fs, sessions::take);
-    row(rt, "a register read", Frames::Feedback, t, r, fs, |frames: &[[u8; 8]]| runs::run_all(Kind::Read, frames));
-    row(rt, "a confirmed write", Frames::Feedback, t, r, fs, |frames: &[[u8; 8]]| runs::run_all(Kind::Write, frames));
-    row(rt, "a mode switch", Frames::Feedback, t, r, fs, |frames: &[[u8; 8]]| runs::run_all(Kind::Switch, frames));
+    row(
+        rt,
+        "take feedback frames, lent",
+        Frames::Feedback,
+        t,
+        r,
+        fs,
+        lent::take_lent,
+    );
+    row(
+        rt,
+        "take replies, lent",
+        Frames::Replies,
+        t,
+        r,
+        fs,
+        lent::take_lent,
+    );
+    row(
+        rt,
+        "take, a third of each class, lent",
+        Frames::Mixed,
+        t,
+        r,
+        fs,
+        lent::take_lent,
+    );
+    row(
+        rt,
+        "take feedback frames, by value",
+        Frames::Feedback,
+        t,
+        r,
+        fs,
+        sessions::take,
+    );
+    row(
+        rt,
+        "take replies, by value",
+        Frames::Replies,
+        t,
+        r,
+        fs,
+        sessions::take,
+    );
+    row(
+        rt,
+        "take, a third of each class, by value",
+        Frames::Mixed,
+        t,
+        r,
+        fs,
+        sessions::take,
+    );
+    row(
+        rt,
+        "a register read",
+        Frames::Feedback,
+        t,
+        r,
+        fs,
+        |frames: &[[u8; 8]]| runs::run_all(Kind::Read, frames),
+    );
+    row(
+        rt,
+        "a confirmed write",
+        Frames::Feedback,
+        t,
+        r,
+        fs,
+        |frames: &[[u8; 8]]| runs::run_all(Kind::Write, frames),
+    );
+    row(
+        rt,
+        "a mode switch",
+        Frames::Feedback,
+        t,
+        r,
+        fs,
+        |frames: &[[u8; 8]]| runs::run_all(Kind::Switch, frames),
+    );
 }
 
 // The seed that the first argument is, if there is one.

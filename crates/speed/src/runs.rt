@@ -75,10 +75,7 @@ fn result_number(res: RunResult) -> u64 {
 fn want_total(sum: u64, want: Wanted) -> u64 {
     match want {
         Wanted::Clock => sum,
-        Wanted::Send(command) => mixed(
-            mixed(sum, u64::from(command.arbitration_id)),
-            command.data,
-        ),
+        Wanted::Send(command) => mixed(mixed(sum, u64::from(command.arbitration_id)), command.data),
         Wanted::Sleep(length) => mixed(sum, length.0),
     }
 }
@@ -142,7 +139,10 @@ fn after_answers(mut line: Line, count: u64) -> Line {
 fn one_run(kind: Kind, line: Line, data: [u8; 8], place: u64) -> Line {
     let session = line.turn.session;
     let Line {
-        value, now, sum, ..
+        value,
+        now,
+        sum,
+        ..
     } = line;
     match kind {
         Kind::Read => {
