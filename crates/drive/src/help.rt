@@ -42,12 +42,12 @@ const CALLS: [&[u8]; 36] = [
     b"suggest P V T COUNT",
 ];
 
-const FIELDS: [u8; 219] = *b"\
+const FIELDS: &[u8] = b"\
     MOTOR and FEEDBACK have 16 bits; RID, DLC, STATUS, MOS, ROTOR and N 8;\n\
     TIMEOUT, READING, DATA and COUNT 64; EXT is 0 or 1; a NAME is any word; the\n\
     others have 32, and a float is the number of its bits. Times are in ns.\n";
 
-const REFUSALS: [u8; 501] = *b"\
+const REFUSALS: &[u8] = b"\
     refused 1: a limit that is not from 1/1024 to 65536\n\
     refused 2: a motor id above 0xFCFF\n\
     refused 3: a reading that goes back or lies above 2^62\n\
@@ -66,8 +66,8 @@ pub(crate) fn put_help(page: &mut Page) {
         page.put(call);
         page.put(b"\n");
     }
-    page.put(&FIELDS);
-    page.put(&REFUSALS);
+    page.put(FIELDS);
+    page.put(REFUSALS);
 }
 
 // The call and its arguments.

@@ -2,7 +2,7 @@
 ghost use Rattle.std.specs.Prelude.{◌≤◌, length};
 
 use crate::BUFFER;
-use std::io::{Print, Result};
+use std::io::{self, Print};
 
 // A page is written out once it has so many bytes. The rest has room for any answer; the longest, a
 // session that holds every entry, has some 4,000 bytes.
@@ -52,7 +52,7 @@ impl Page {
         self.to = 0;
     }
 
-    pub(crate) fn write_to(&self, print: &impl Print) -> Result<()> {
+    pub(crate) fn write_to(&self, print: &impl Print) -> io::Result<()> {
         print.write_all(&self.bytes[..self.to])
     }
 }

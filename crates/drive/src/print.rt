@@ -30,9 +30,9 @@ impl Page {
     }
 
     // The words and the bits of a float.
-    pub(crate) fn put_bits(&mut self, words: &[u8], bits: impl Into<u64>) {
+    pub(crate) fn put_bits(&mut self, words: &[u8], bits: u32) {
         self.put(words);
-        self.put_hex(bits.into(), 8);
+        self.put_hex(u64::from(bits), 8);
     }
 
     // What a motor measures, a space before each.
