@@ -1,9 +1,18 @@
-// The answer to a call that needs no session, put into the output.
-use crate::{commands, listing, reports};
+// The answer to a call. A call that is refused puts nothing on the page.
+use crate::page::Page;
+use crate::{commands, listing, reports, sessions};
+use motor_core::error::Refusal;
 use script::{Call, CallName};
+use session::Session;
 
-pub(crate) fn answer(call: Call, output: &mut [u8], to: usize) -> usize {
+pub(crate) fn answer(
+    page: &mut Page,
+    session: &mut Option<Session>,
+    call: Call,
+    line: &[u8],
+) -> Result<(), Refusal> {
     match call.name {
+        CallName::StartLimits | CallName::StartModel => sessions::start(page, session, call, line),
         CallName::Mit
         | CallName::PosVel
         | CallName::Vel
@@ -14,8 +23,11 @@ pub(crate) fn answer(call: Call, output: &mut [u8], to: usize) -> usize {
         | CallName::FeedbackRequest
         | CallName::Disable
         | CallName::Zero
-        | CallName::Clear => commands::put_command(commands::made(call), output, to),
-        CallName::Match | CallName::Suggest => listing::answer(call, output, to),
-        _ => reports::answer(call, output, to),
+        | CallName::Clear => commands::answer(page, call),
+        CallName::Match | CallName::Suggest => listing::answer(page, call),
+        CallName::Decode | CallName::Sort | CallName::StatusName | CallName::Register => {
+            reports::answer(page, call)
+        }
+        _ => sessions::answer(page, session, call),
     }
 }

@@ -1,6 +1,6 @@
 // The calls and the refusals in words, for a person at the terminal.
+use crate::page::Page;
 use script::CallName;
-use text::put;
 
 // A line for each call, in the order of their names.
 const CALLS: [&[u8]; 36] = [
@@ -42,12 +42,12 @@ const CALLS: [&[u8]; 36] = [
     b"suggest P V T COUNT",
 ];
 
-const FIELDS: [u8; 219] = *b"\
+const FIELDS: &[u8] = b"\
     MOTOR and FEEDBACK have 16 bits; RID, DLC, STATUS, MOS, ROTOR and N 8;\n\
     TIMEOUT, READING, DATA and COUNT 64; EXT is 0 or 1; a NAME is any word; the\n\
     others have 32, and a float is the number of its bits. Times are in ns.\n";
 
-const REFUSALS: [u8; 501] = *b"\
+const REFUSALS: &[u8] = b"\
     refused 1: a limit that is not from 1/1024 to 65536\n\
     refused 2: a motor id above 0xFCFF\n\
     refused 3: a reading that goes back or lies above 2^62\n\
@@ -61,22 +61,16 @@ const REFUSALS: [u8; 501] = *b"\
     refused 11: a query that is not from -65536 to 65536\n\
     refused 12: a name that no model has\n";
 
-pub(crate) fn put_help(notes: &mut [u8], to: usize) -> usize {
-    let at = put_calls(notes, to);
-    let at = put(notes, at, &FIELDS);
-    put(notes, at, &REFUSALS)
-}
-
-fn put_calls(notes: &mut [u8], to: usize) -> usize {
-    let mut at = to;
+pub(crate) fn put_help(page: &mut Page) {
     for call in &CALLS {
-        at = put(notes, at, call);
-        at = put(notes, at, b"\n");
+        page.put(call);
+        page.put(b"\n");
     }
-    at
+    page.put(FIELDS);
+    page.put(REFUSALS);
 }
 
 // The call and its arguments.
-pub(crate) fn put_call(name: CallName, notes: &mut [u8], to: usize) -> usize {
-    put(notes, to, CALLS[name as usize])
+pub(crate) fn call_text(name: CallName) -> &'static [u8] {
+    CALLS[name as usize]
 }

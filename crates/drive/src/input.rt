@@ -1,152 +1,111 @@
 // The lines of the input, however it is cut by the reads.
-use script::MAX_LINE;
-use script_words::index_of;
-use std::io::{Print, Read};
+ghost use Rattle.std.specs.Prelude.{◌≤◌, ◌<◌, length};
 
-// A line, from `from` to `end`, and the bytes that are read, from `next` to `filled`. Either may be
-// the rest of a line that is too long. Where no whole line is left (`is_dry`) the line is empty, and
-// more is to be read. Lines are counted from 1.
+use crate::BUFFER;
+use script::{Call, Fault, MAX_LINE};
+use std::io::{Print, Read};
+use std::mem;
+
+// A line without its newline, and its number, from 1 on. Of a line that is too long the text is a
+// rest.
 #[derive(Clone, Copy)]
-pub(crate) struct Place {
-    from: usize,
-    end: usize,
-    pub(crate) is_long: bool,
+pub(crate) struct Line<'a> {
+    pub(crate) text: &'a [u8],
+    pub(crate) number: u64,
+    is_long: bool,
+}
+
+impl Line<'_> {
+    pub(crate) fn call(&self) -> Result<Option<Call>, Fault> {
+        if self.is_long {
+            return Err(Fault::LongLine);
+        }
+        script::parse(self.text)
+    }
+}
+
+// The bytes that are read and not taken lie from `next` to `filled`. They may begin in the midst of a
+// line that is too long.
+#[derive(Drop)]
+pub(crate) struct Input {
+    bytes: [u8; BUFFER],
     next: usize,
     filled: usize,
+    ghost ordered: { next ≤ filled },
+    ghost within: { filled ≤ length bytes },
     is_rest_long: bool,
-    pub(crate) is_dry: bool,
-    pub(crate) is_last: bool,
-    pub(crate) number: u64,
+    is_over: bool,
+    lines: u64,
 }
 
-pub(crate) fn before_first() -> Place {
-    Place {
-        from: 0,
-        end: 0,
-        is_long: false,
-        next: 0,
-        filled: 0,
-        is_rest_long: false,
-        is_dry: true,
-        is_last: false,
-        number: 0,
-    }
-}
-
-pub(crate) fn line_at(input: &[u8], place: Place) -> &[u8] {
-    input.get(place.from..place.end).unwrap_or_default()
-}
-
-pub(crate) fn next_line(
-    stdin: &mut impl Read,
-    stderr: &impl Print,
-    input: &mut [u8],
-    place: Place,
-) -> Place {
-    if place.is_dry {
-        let more = read_more(stdin, stderr, input, place);
-        return first_line(input, more);
-    }
-    first_line(input, place)
-}
-
-// The first of the lines that are read.
-fn first_line(input: &[u8], place: Place) -> Place {
-    let from = place.next;
-    let filled = place.filled;
-    let end = newline(input, from, filled);
-    if end < filled {
-        return Place {
-            from,
-            end,
-            is_long: place.is_rest_long,
-            next: end + 1,
-            filled,
+impl Input {
+    pub(crate) fn new() -> Self {
+        Input {
+            bytes: [0; BUFFER],
+            next: 0,
+            filled: 0,
             is_rest_long: false,
-            is_dry: false,
-            is_last: place.is_last,
-            number: place.number.wrapping_add(1),
-        };
-    }
-    Place {
-        from,
-        end: from,
-        is_long: false,
-        next: from,
-        filled,
-        is_rest_long: place.is_rest_long,
-        is_dry: true,
-        is_last: place.is_last,
-        number: place.number,
-    }
-}
-
-// The next newline, or the end of what is read.
-fn newline(input: &[u8], from: usize, filled: usize) -> usize {
-    if filled <= input.len() {
-        return index_of(&input[0..filled], from, b'\n');
-    }
-    filled
-}
-
-// Reads once, after the unfinished line. At the end of the input that is the last line, and a newline
-// is put after it.
-fn read_more(stdin: &mut impl Read, stderr: &impl Print, input: &mut [u8], place: Place) -> Place {
-    let rest = keep_rest(input, place);
-    let held = rest.unwrap_or(0);
-    let read = read_after(stdin, stderr, input, held);
-    let mut more = place;
-    more.next = 0;
-    more.is_rest_long = rest.is_none();
-    if read > held {
-        more.filled = read;
-        return more;
-    }
-    more.filled = end_line(input, held);
-    more.is_last = true;
-    more
-}
-
-// Reads after the bytes that are held, and answers where the bytes end.
-fn read_after(stdin: &mut impl Read, stderr: &impl Print, input: &mut [u8], held: usize) -> usize {
-    if held >= input.len() {
-        return 0;
-    }
-    match stdin.read(&mut input[held..]) {
-        Ok(n) => held + n,
-        Err(_) => {
-            complain(stderr, b"drive: the input cannot be read\n");
-            held
+            is_over: false,
+            lines: 0,
         }
+    }
+
+    // Whether the last read was the last of all.
+    pub(crate) fn is_over(&self) -> bool {
+        self.is_over
+    }
+
+    // Takes the next line, where a whole one is left.
+    pub(crate) fn next_line(&mut self) -> Option<Line<'_>> {
+        let from = self.next;
+        let length = self.bytes[from..self.filled]
+            .iter()
+            .position(|byte| *byte == b'\n')?;
+        let is_long = mem::take(&mut self.is_rest_long);
+        self.next += length + 1;
+        self.lines = self.lines.wrapping_add(1);
+        Some(Line {
+            text: &self.bytes[from..from + length],
+            number: self.lines,
+            is_long,
+        })
+    }
+
+    // Reads once, after the unfinished line. At the end of the input that is the last line, and a
+    // newline is put after it.
+    pub(crate) fn read_more(&mut self, stdin: &mut impl Read, stderr: &impl Print) {
+        self.keep_rest();
+        let read = match stdin.read(&mut self.bytes[self.filled..]) {
+            Ok(read) => read,
+            Err(_) => {
+                complain(stderr, b"drive: the input cannot be read\n");
+                0
+            }
+        };
+        self.filled += read;
+        if read == 0 {
+            self.is_over = true;
+            self.bytes[self.filled] = b'\n';
+            self.filled += 1;
+        }
+    }
+
+    // Moves the unfinished line to the front, or drops it where it is too long.
+    fn keep_rest(&mut self)
+        ensures { self.new.filled < length self.new.bytes }
+    {
+        let length = self.filled - self.next;
+        if self.is_rest_long || length > MAX_LINE {
+            self.is_rest_long = true;
+            self.filled = 0;
+        } else {
+            self.bytes.copy_within(self.next..self.filled, 0);
+            self.filled = length;
+        }
+        self.next = 0;
     }
 }
 
 pub(crate) fn complain(stderr: &impl Print, line: &[u8]) {
     let _ = stderr.write_all(line);
-}
-
-fn end_line(input: &mut [u8], held: usize) -> usize {
-    if held >= input.len() {
-        return held;
-    }
-    input[held] = b'\n';
-    held + 1
-}
-
-// Moves the unfinished line to the front and answers its length, or nothing where it is too long.
-fn keep_rest(input: &mut [u8], place: Place) -> Option<usize> {
-    let Place {
-        next,
-        filled,
-        is_rest_long,
-        ..
-    } = place;
-    if is_rest_long || filled.saturating_sub(next) > MAX_LINE {
-        return None;
-    }
-    if next > filled || filled > input.len() {
-        return Some(0);
-    }
-    input.copy_within(next..filled, 0);
-    Some(filled - next)
 }

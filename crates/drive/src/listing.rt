@@ -1,6 +1,6 @@
 // The calls on the list of models.
-use crate::fields::{real_at, u64_at};
-use crate::print::{put_refused, put_word};
+use crate::fields::{number_at, real_at};
+use crate::page::Page;
 use model_damiao::damiao_models;
 use model_list::Names;
 use model_match::match_models_by_limits;
@@ -8,13 +8,14 @@ use model_query::Query;
 use model_suggest::suggest_models_by_limits;
 use motor_core::error::Refusal;
 use script::{Call, CallName};
-use text::put;
 
-pub(crate) fn answer(call: Call, output: &mut [u8], to: usize) -> usize {
-    match call.name {
-        CallName::Match => put_listing(matched(call), output, to),
-        _ => put_listing(suggested(call), output, to),
-    }
+pub(crate) fn answer(page: &mut Page, call: Call) -> Result<(), Refusal> {
+    let names = match call.name {
+        CallName::Match => match_models_by_limits(&damiao_models(), query(call), real_at(call, 3)),
+        _ => suggest_models_by_limits(&damiao_models(), query(call), number_at(call, 3)),
+    };
+    put_names(page, &names?);
+    Ok(())
 }
 
 fn query(call: Call) -> Query {
@@ -25,25 +26,9 @@ fn query(call: Call) -> Query {
     }
 }
 
-fn matched(call: Call) -> Result<Names, Refusal> {
-    match_models_by_limits(&damiao_models(), query(call), real_at(call, 3))
-}
-
-fn suggested(call: Call) -> Result<Names, Refusal> {
-    suggest_models_by_limits(&damiao_models(), query(call), u64_at(call, 3) as usize)
-}
-
-fn put_listing(listing: Result<Names, Refusal>, output: &mut [u8], to: usize) -> usize {
-    match listing {
-        Ok(names) => put_names(&names, output, to),
-        Err(refusal) => put_refused(refusal, output, to),
-    }
-}
-
-fn put_names(names: &Names, output: &mut [u8], to: usize) -> usize {
-    let mut at = put(output, to, b"models");
+fn put_names(page: &mut Page, names: &Names) {
+    page.put(b"models");
     for name in names.as_slice() {
-        at = put_word(name.as_bytes(), output, at);
+        page.put_word(name.as_bytes());
     }
-    at
 }

@@ -11,6 +11,7 @@ mod input;
 mod lines;
 mod listing;
 mod notes;
+mod page;
 mod print;
 mod reports;
 mod results;
@@ -23,15 +24,5 @@ mod values;
 const BUFFER: usize = 65_536;
 
 fn main(rt: HostRuntime) {
-    let mut input = [0u8; BUFFER];
-    let mut output = [0u8; BUFFER];
-    let mut notes = [0u8; BUFFER];
-    lines::run(
-        &mut rt.stdin(),
-        &rt.stdout(),
-        &rt.stderr(),
-        &mut input,
-        &mut output,
-        &mut notes,
-    );
+    lines::run(&mut rt.stdin(), &rt.stdout(), &rt.stderr());
 }

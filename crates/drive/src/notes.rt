@@ -1,44 +1,45 @@
 // What drive says of a bad line on standard error.
-use crate::help::{put_call, put_help};
-use crate::print::put_numbered;
+use crate::help::{call_text, put_help};
+use crate::input::Line;
+use crate::page::Page;
 use script::{CallName, Fault};
 use script_words::Kind;
-use text::put;
 
-// Why the line with this number is bad; where it asks for help, the help.
-pub(crate) fn note(fault: Fault, line: &[u8], number: u64, notes: &mut [u8], to: usize) -> usize {
-    if fault == Fault::UnknownWord && line == b"help".as_slice() {
-        return put_help(notes, to);
+// Why the line is bad; where it asks for help, the help.
+pub(crate) fn put_note(page: &mut Page, fault: Fault, line: Line) {
+    if fault == Fault::UnknownWord && line.text == b"help".as_slice() {
+        put_help(page);
+    } else {
+        page.put_numbered(b"line ", line.number);
+        page.put(b": ");
+        put_fault(page, fault);
+        page.put(b"\n");
     }
-    let at = put_numbered(notes, to, b"line ", number);
-    let at = put(notes, at, b": ");
-    let at = put_fault(fault, notes, at);
-    put(notes, at, b"\n")
 }
 
-fn put_fault(fault: Fault, notes: &mut [u8], to: usize) -> usize {
+fn put_fault(page: &mut Page, fault: Fault) {
     match fault {
-        Fault::LongLine => put(notes, to, b"longer than 4095 bytes"),
-        Fault::ControlByte => put(notes, to, b"a tab or a carriage return"),
-        Fault::UnknownWord => put(notes, to, b"unknown word, the line help lists the calls"),
-        Fault::TooFew(name) => put_count(b"too few arguments for ", name, notes, to),
-        Fault::TooMany(name) => put_count(b"too many arguments for ", name, notes, to),
-        Fault::WrongArgument(name, place, kind) => { put_argument(name, place, kind, notes, to) }
+        Fault::LongLine => page.put(b"longer than 4095 bytes"),
+        Fault::ControlByte => page.put(b"a tab or a carriage return"),
+        Fault::UnknownWord => page.put(b"unknown word, the line help lists the calls"),
+        Fault::TooFew(name) => put_count(page, b"too few arguments for ", name),
+        Fault::TooMany(name) => put_count(page, b"too many arguments for ", name),
+        Fault::WrongArgument(name, place, kind) => put_argument(page, name, place, kind),
     }
 }
 
-fn put_count(words: &[u8], name: CallName, notes: &mut [u8], to: usize) -> usize {
-    let at = put(notes, to, words);
-    put_call(name, notes, at)
+fn put_count(page: &mut Page, words: &[u8], name: CallName) {
+    page.put(words);
+    page.put(call_text(name));
 }
 
 // Which argument does not fit, and what is wanted.
-fn put_argument(name: CallName, place: usize, kind: Kind, notes: &mut [u8], to: usize) -> usize {
-    let at = put_numbered(notes, to, b"argument ", place as u64);
-    let at = put(notes, at, b" does not fit: ");
-    let at = put(notes, at, wanted(kind));
-    let at = put(notes, at, b" is wanted for ");
-    put_call(name, notes, at)
+fn put_argument(page: &mut Page, name: CallName, place: usize, kind: Kind) {
+    page.put_numbered(b"argument ", place as u64);
+    page.put(b" does not fit: ");
+    page.put(wanted(kind));
+    page.put(b" is wanted for ");
+    page.put(call_text(name));
 }
 
 fn wanted(kind: Kind) -> &'static [u8] {

@@ -1,58 +1,52 @@
 // Pieces of answers.
+use crate::page::Page;
 use motor_core::error::Refusal;
+use protocol_frame::Command;
 use protocol_status::{StatusName, status_text};
-use text::{put, put_decimal, put_hex};
 
-// The words and the number after them.
-pub(crate) fn put_numbered(output: &mut [u8], to: usize, words: &[u8], number: u64) -> usize {
-    let at = put(output, to, words);
-    put_decimal(output, at, number)
-}
+impl Page {
+    // The words and the number after them; 1 or 0 for a flag.
+    pub(crate) fn put_numbered(&mut self, words: &[u8], number: impl Into<u64>) {
+        self.put(words);
+        self.put_decimal(number.into());
+    }
 
-// A space and the number.
-pub(crate) fn put_next(output: &mut [u8], to: usize, number: u64) -> usize {
-    put_numbered(output, to, b" ", number)
-}
+    // A space and the number.
+    pub(crate) fn put_next(&mut self, number: impl Into<u64>) {
+        self.put_numbered(b" ", number);
+    }
 
-// The words, and 1 or 0.
-pub(crate) fn put_flag(output: &mut [u8], to: usize, words: &[u8], flag: bool) -> usize {
-    put_numbered(output, to, words, u64::from(flag))
-}
+    // A space and the word.
+    pub(crate) fn put_word(&mut self, word: &[u8]) {
+        self.put(b" ");
+        self.put(word);
+    }
 
-pub(crate) fn put_refused(refusal: Refusal, output: &mut [u8], to: usize) -> usize {
-    put_numbered(output, to, b"refused ", u64::from(u8::from(refusal)))
-}
+    // The words, and the frame's id and data.
+    pub(crate) fn put_frame(&mut self, words: &[u8], command: Command) {
+        self.put_numbered(words, command.arbitration_id);
+        self.put(b" ");
+        self.put_hex(command.data, 16);
+    }
 
-// A space and the float's bits.
-fn put_real(output: &mut [u8], to: usize, x: f32) -> usize {
-    let at = put(output, to, b" ");
-    put_hex(output, at, u64::from(float::to_bits(x).0), 8)
-}
+    // The words and the bits of a float.
+    pub(crate) fn put_bits(&mut self, words: &[u8], bits: u32) {
+        self.put(words);
+        self.put_hex(u64::from(bits), 8);
+    }
 
-// What a motor measures, a space before each.
-pub(crate) fn put_measured(
-    output: &mut [u8],
-    to: usize,
-    pos: f32,
-    vel: f32,
-    torq: f32,
-    t_mos: f32,
-    t_rotor: f32,
-) -> usize {
-    let at = put_real(output, to, pos);
-    let at = put_real(output, at, vel);
-    let at = put_real(output, at, torq);
-    let at = put_real(output, at, t_mos);
-    put_real(output, at, t_rotor)
-}
+    // What a motor measures, a space before each.
+    pub(crate) fn put_measured(&mut self, measured: [f32; 5]) {
+        for x in measured {
+            self.put_bits(b" ", float::to_bits(x).0);
+        }
+    }
 
-// A space and the word.
-pub(crate) fn put_word(word: &[u8], output: &mut [u8], to: usize) -> usize {
-    let at = put(output, to, b" ");
-    put(output, at, word)
-}
+    pub(crate) fn put_status_name(&mut self, name: StatusName) {
+        self.put_word(status_text(name).as_bytes());
+    }
 
-// A space and the name of a status.
-pub(crate) fn put_status_name(name: StatusName, output: &mut [u8], to: usize) -> usize {
-    put_word(status_text(name).as_bytes(), output, to)
+    pub(crate) fn put_refused(&mut self, refusal: Refusal) {
+        self.put_numbered(b"refused ", u8::from(refusal));
+    }
 }
