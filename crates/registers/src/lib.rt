@@ -51,7 +51,7 @@ const WU: Option<RegisterInfo> = Some(RegisterInfo {
 });
 
 // A place for each register number, in rows of eight with the first one's number beside them.
-const REGISTERS: [[Option<RegisterInfo>; 8]; 32] = [
+static REGISTERS: [[Option<RegisterInfo>; 8]; 32] = [
     [WF, WF, WF, WF, WF, WF, WF, WU], // 0
     [WU, WU, WU, RF, RF, RU, RU, RU], // 8
     [RU, RF, RF, RF, RF, WF, WF, WF], // 16
