@@ -7,7 +7,7 @@ use registers::RegisterDataType;
 use run_machine::{Machine, Outcome, RunResult};
 use run_wait::Wait;
 use run_wait::ask::Ask;
-use run_want::{Answer, Failure, SendError};
+use run_want::{Answer, Failure, SendError, Want};
 use session::Session;
 use session_answer::{AfterCall, answer_run};
 use session_begin::{ensure_control_mode, get_register_f32, get_register_u32, write_register_u32};
@@ -60,9 +60,9 @@ fn put_told(rt: &impl Print, told: Told) {
 
 fn put_want(rt: &impl Print, want: Wanted) {
     match want {
-        Wanted::Clock => text(rt, b" clock"),
-        Wanted::Send(command) => put_send(rt, command),
-        Wanted::Sleep(_) => text(rt, b" sleep"),
+        Want::Clock => text(rt, b" clock"),
+        Want::Send(command) => put_send(rt, command),
+        Want::Sleep(_) => text(rt, b" sleep"),
     }
 }
 

@@ -81,12 +81,12 @@ fn numbers_end(rt: &impl Print) -> Result<(), Refusal> {
 // A frame with this reading after one at 5.
 fn reading(rt: &impl Print, name: &[u8], reading: u64) -> Result<(), Refusal> {
     let session = take(started()?, FEEDBACK, 5).session;
-    line(rt, name, refusal(take(session, FEEDBACK, reading).outcome));
+    line(rt, name, refusal(take(session, FEEDBACK, reading).told));
     Ok(())
 }
 
 fn patch_with_none(rt: &impl Print) -> Result<(), Refusal> {
-    let patched = session::patch_latest(started()?, 0, 0, 0).patched;
+    let patched = session::patch_latest(started()?, 0, 0, 0).told;
     line(
         rt,
         b"a patch before the first record answers ",

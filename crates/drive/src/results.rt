@@ -3,7 +3,7 @@ use crate::page::Page;
 use crate::values::{put_feedback_state, put_value};
 use registers::RegisterValue;
 use run_machine::{Outcome, RunResult};
-use run_want::Failure;
+use run_want::{Failure, Want};
 use session_step::{Told, Wanted};
 use state_feedback::MotorFeedbackState;
 
@@ -16,9 +16,9 @@ pub(crate) fn put_told(page: &mut Page, told: Told) {
 
 fn put_want(page: &mut Page, want: Wanted) {
     match want {
-        Wanted::Clock => page.put(b"want clock"),
-        Wanted::Send(command) => page.put_frame(b"want send ", command),
-        Wanted::Sleep(length) => page.put_numbered(b"want sleep ", length.0),
+        Want::Clock => page.put(b"want clock"),
+        Want::Send(command) => page.put_frame(b"want send ", command),
+        Want::Sleep(length) => page.put_numbered(b"want sleep ", length.0),
     }
 }
 

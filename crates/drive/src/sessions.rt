@@ -59,7 +59,7 @@ fn on_session(page: &mut Page, session: &mut Session, call: Call) -> Result<(), 
         CallName::Frame => {
             let done = take_frame(*session, frame_at(call, 1), reading(call));
             *session = done.session;
-            done.outcome?;
+            done.told?;
             page.put(b"taken");
         }
         CallName::FrameLent => {
@@ -74,7 +74,7 @@ fn on_session(page: &mut Page, session: &mut Session, call: Call) -> Result<(), 
                 number_at(call, 2),
             );
             *session = done.session;
-            page.put_numbered(b"patched ", done.patched);
+            page.put_numbered(b"patched ", done.told);
         }
         CallName::Accepts => {
             page.put_numbered(b"accepts ", accepts_frame(session.head, frame_at(call, 0)));

@@ -54,8 +54,8 @@ pub record Beside : Type 0 where
   pub reading_beyond : IsRefusedWith 3 (frame_outcome fed_twice.head (on_bus at_minimum) (at (2 ^ 62 + 1)))
   -- limits of 0, which no start accepts
   pub placeholder_limits : IsRefusedWith 1 (limits_of no_limits)
-  pub patch_with_none : (patch session 1 2 3).patched ≡ false
-  pub patch_with_one : (patch fed_twice 1 2 3).patched ≡ true
+  pub patch_with_none : (patch session 1 2 3).told ≡ false
+  pub patch_with_one : (patch fed_twice 1 2 3).told ≡ true
   pub cached_none : cached_entry session.replies 10 ≡ Ok Empty
   pub cached_unknown : IsRefusedWith 4 (cached_entry session.replies 37)
   pub stranger_taken_for_motor : accepted 1 0x12 (stranger 0x21 8 false) ≡ true

@@ -22,7 +22,8 @@ use Rattle.run_want.specs.declared.Failure.{Failure}
 use Rattle.run_want.specs.declared.Failure.TheVariants.{Timeout, Mismatch, WrongType, SendFailed}
 use Rattle.run_want.specs.declared.message.Message.{Message}
 use Rattle.run_want.specs.declared.message.Message.TheVariants.{ReadRegister, RequestFeedback}
-use Rattle.run_wait.specs.Ask.{ask_want, ask_waited, ask_step}
+use Rattle.run_wait.specs.Ask.{ask_want, ask_waited, ask_step, looked}
+use Rattle.state_cache.specs.Cache.{value_in}
 use Rattle.run_wait.specs.Look.{fresh_entry, fresh_record}
 use Rattle.run_wait.specs.Wait.{late, wait_want, wait_step}
 use Rattle.run_wait.specs.declared.Wait.{Wait}
@@ -31,7 +32,7 @@ use Rattle.run_wait.specs.declared.Waited.{Waited}
 use Rattle.run_wait.specs.declared.Waited.TheVariants as Waited
 use Rattle.run_wait.specs.declared.ask.Ask.{Ask}
 use Rattle.run_wait.specs.declared.ask.Ask.TheVariants as Ask
-use Rattle.run_read.specs.Read.{reply_found, read_by, get_by, get_step}
+use Rattle.run_read.specs.Read.{read_by, get_by, get_step}
 use Rattle.run_write.specs.Ack.{ack_timeout, ack_want, ack_waited, ack_step}
 use Rattle.run_write.specs.Ack as AckSpec
 use Rattle.run_write.specs.Write.{write_want, again, write_waited, write_step}
@@ -39,7 +40,7 @@ use Rattle.run_write.specs.declared.ack.AckWait.{AckWait}
 use Rattle.run_write.specs.declared.ack.AckWait.TheVariants as AckWait
 use Rattle.run_write.specs.declared.Write.{Write}
 use Rattle.run_write.specs.declared.Write.TheVariants as Write
-use Rattle.run_fresh.specs.State.{record_found, state_by, state_step}
+use Rattle.run_fresh.specs.State.{state_by, state_step}
 use Rattle.run_fresh.specs.Store.{state_timeout, store_want, by_status, store_asked, store_step}
 use Rattle.run_fresh.specs.declared.store.Store.{Store}
 use Rattle.run_fresh.specs.declared.store.Store.TheVariants as Store
@@ -47,7 +48,7 @@ use Rattle.protocol_hold.specs.declared.ControlMode.{ControlMode}
 use Rattle.protocol_hold.specs.declared.ControlMode.TheVariants.{Mit, PosVel, Vel, ForcePos}
 use Rattle.switch_stage.specs.Stage.{mode_value, switch_want}
 use Rattle.switch_prepare.specs.Prepare.{prepare, after_hold_read, cleared, hold_timed}
-use Rattle.switch_finish.specs.Finish.{finish, held}
+use Rattle.switch_finish.specs.Finish.{finish}
 use Rattle.switch_finish.specs.declared.Finishing.{Finishing}
 use Rattle.switch_finish.specs.declared.Finishing.TheVariants as Finish
 use Rattle.switch_write.specs.WriteMode.{after_prepare, after_mode_write, after_finish, settled}
@@ -64,7 +65,7 @@ use Rattle.run_step.specs.Step.{machine_step}
 use Rattle.run_machine.specs.declared.Outcome.{Outcome}
 use Rattle.run_machine.specs.declared.Outcome.TheVariants.{Done, Value, State}
 use Rattle.run_want.specs.Step.{Stepped, goes, ends, map_stepped}
-use Rattle.run_want.specs.declared.step.Step.TheVariants.{Goes, Ends}
+use Rattle.std.specs.declared.ops.ControlFlow.TheVariants.{Continue, Break}
 use Rattle.state_feedback.specs.declared.FeedbackSnapshot.{FeedbackSnapshot}
 use Rattle.motor_core.specs.Outcome.{and_then}
 use Rattle.run_machine.specs.declared.Machine.{Machine}
@@ -115,21 +116,21 @@ module _ {κ : Clocked} (β : Budget κ) where
   ask_covers m l k (Ask.Sending o) = omega arith
   ask_covers m l k (Ask.Waiting w) = wait_covers l k w
 
-  -- ---- the register read
+  looked_left : {T : Type 0} (m : Message) (l : Duration) (k : κ.Known) (o : Instant) (x : Option T) → stepped_left (ask_left β m l k) (Ok (looked o x)) ≤ β.wait_left l k (Checking o)
+  looked_left m l k o None = omega arith
+  looked_left m l k o (Some found) = omega arith
 
-  read_found : (rid : ℕ) (l : Duration) (k : κ.Known) (o : Instant) (e : Entry) → read_left β rid l k (Ok (reply_found o e)) ≤ β.wait_left l k (Checking o)
-  read_found rid l k o Empty = omega arith
-  read_found rid l k o (Held value stamp) = omega arith
+  -- ---- the register read
 
   read_by_left : (rid : ℕ) (l : Duration) (k : κ.Known) (e : Entry) (x : Result (Waited Ask) Failure) → read_left β rid l k (and_then x (read_by e)) ≤ asked_left β (ReadRegister rid) l k x
   read_by_left rid l k e (Ok (Waited.Goes q)) = omega arith
-  read_by_left rid l k e (Ok (Waited.Looks o)) = read_found rid l k o (fresh_entry o e)
+  read_by_left rid l k e (Ok (Waited.Looks o)) = looked_left (ReadRegister rid) l k o (value_in (fresh_entry o e))
   read_by_left rid l k e (Ok Waited.Late) = omega arith
   read_by_left rid l k e (Err failure) = omega arith
 
   get_by_left : (t : RegisterDataType) (rid : ℕ) (l : Duration) (k : κ.Known) (x : Stepped Ask RegisterValue) → read_left β rid l k (and_then x (get_by t)) ≤ read_left β rid l k x
-  get_by_left t rid l k (Ok (Goes q)) = omega arith
-  get_by_left t rid l k (Ok (Ends value)) = go (of_type value t)
+  get_by_left t rid l k (Ok (Continue q)) = omega arith
+  get_by_left t rid l k (Ok (Break value)) = go (of_type value t)
     where
       go : (b : Bool) → read_left β rid l k (and_then (cond b (Ok value) (Err WrongType)) ends) ≤ 0
       go true = omega arith
@@ -143,13 +144,9 @@ module _ {κ : Clocked} (β : Budget κ) where
 
   -- ---- the fresh-state request
 
-  state_found : (l : Duration) (k : κ.Known) (o : Instant) (x : Option FeedbackSnapshot) → state_left β l k (Ok (record_found o x)) ≤ β.wait_left l k (Checking o)
-  state_found l k o None = omega arith
-  state_found l k o (Some s) = omega arith
-
   state_by_left : (l : Duration) (k : κ.Known) (latest : Option FeedbackSnapshot) (x : Result (Waited Ask) Failure) → state_left β l k (and_then x (state_by latest)) ≤ asked_left β RequestFeedback l k x
   state_by_left l k latest (Ok (Waited.Goes q)) = omega arith
-  state_by_left l k latest (Ok (Waited.Looks o)) = state_found l k o (fresh_record o latest)
+  state_by_left l k latest (Ok (Waited.Looks o)) = looked_left RequestFeedback l k o (option_map (λ (s : FeedbackSnapshot). Some s.state) (fresh_record o latest))
   state_by_left l k latest (Ok Waited.Late) = omega arith
   state_by_left l k latest (Err failure) = omega arith
 
@@ -167,9 +164,9 @@ module _ {κ : Clocked} (β : Budget κ) where
       go false = omega arith
 
   store_asked_left : (k : κ.Known) (x : Stepped Ask (Option MotorFeedbackState)) → store_left β k (store_asked x) ≤ state_left β state_timeout k x + disabling β
-  store_asked_left k (Ok (Goes q)) = omega arith
-  store_asked_left k (Ok (Ends (Some s))) = omega (arith, status_left k s)
-  store_asked_left k (Ok (Ends None)) = omega arith
+  store_asked_left k (Ok (Continue q)) = omega arith
+  store_asked_left k (Ok (Break (Some s))) = omega (arith, status_left k s)
+  store_asked_left k (Ok (Break None)) = omega arith
   store_asked_left k (Err failure) = omega arith
 
   store_sent_left : (k : κ.Known) (after : Store) (x : Result (Unit {0}) Failure) → stored_left β k (and_then x (λ sent. goes after)) ≤ store_left β k after
@@ -198,7 +195,7 @@ module _ {κ : Clocked} (β : Budget κ) where
   ack_found k o v Empty = omega arith
   ack_found k o v (Held got stamp) = go (same_value got v)
     where
-      go : (b : Bool) → acked_left β k (cond b (Ok (Ends tt)) (Err (Mismatch got))) ≤ β.wait_left ack_timeout k (Checking o)
+      go : (b : Bool) → acked_left β k (cond b (Ok (Break tt)) (Err (Mismatch got))) ≤ β.wait_left ack_timeout k (Checking o)
       go true = omega arith
       go false = omega arith
 
@@ -224,8 +221,8 @@ module _ {κ : Clocked} (β : Budget κ) where
   again_left rid v k (suc n) failure = omega arith
 
   write_waited_left : (rid : ℕ) (v : RegisterValue) (k : κ.Known) (n : ℕ) (x : Stepped AckWait (Unit {0})) → written_left β rid v k (write_waited n x) ≤ acked_left β k x + more_tries β rid v n
-  write_waited_left rid v k n (Ok (Goes q)) = omega arith
-  write_waited_left rid v k n (Ok (Ends acked)) = omega arith
+  write_waited_left rid v k n (Ok (Continue q)) = omega arith
+  write_waited_left rid v k n (Ok (Break acked)) = omega arith
   write_waited_left rid v k n (Err failure) = omega (arith, again_left rid v k n failure)
 
   write_sent_left : (rid : ℕ) (v : RegisterValue) (k : κ.Known) (n : ℕ) (x : Result (Unit {0}) Failure) → written_left β rid v k (and_then x (λ sent. goes (Write.Waiting n AckWait.Opening))) ≤ β.clock + β.opened ack_timeout + more_tries β rid v n
@@ -258,10 +255,10 @@ module _ {κ : Clocked} (β : Budget κ) where
   unfound_left mode k (Verify (suc n)) p = omega arith
 
   mode_read_left : (mode : ControlMode) (k : κ.Known) (which : ModeRead) (p : Progress) (l : Duration) (x : Stepped Ask RegisterValue) → switched_left β mode k (after_mode_read mode which p l x) ≤ read_left β 10 l k x + unfound β mode which
-  mode_read_left mode k which p l (Ok (Goes q)) = omega arith
-  mode_read_left mode k which p l (Ok (Ends v)) = omega (arith, go (same_value v (mode_value mode)))
+  mode_read_left mode k which p l (Ok (Continue q)) = omega arith
+  mode_read_left mode k which p l (Ok (Break v)) = omega (arith, go (same_value v (mode_value mode)))
     where
-      go : (b : Bool) → switched_left β mode k (cond b (Ok (Ends tt)) (not_yet mode which (with_error p (Mismatch v)))) ≤ unfound β mode which
+      go : (b : Bool) → switched_left β mode k (cond b (Ok (Break tt)) (not_yet mode which (with_error p (Mismatch v)))) ≤ unfound β mode which
       go true = omega arith
       go false = unfound_left mode k which (with_error p (Mismatch v))
   mode_read_left mode k which p l (Err Timeout) = omega (arith, unfound_left mode k which (with_error p Timeout))
@@ -270,8 +267,8 @@ module _ {κ : Clocked} (β : Budget κ) where
   mode_read_left mode k which p l (Err SendFailed) = omega arith
 
   hold_read_left : (mode : ControlMode) (k : κ.Known) (p : Progress) (l : Duration) (x : Stepped Ask RegisterValue) → switched_left β mode k (after_prepare (after_hold_read p l x)) ≤ read_left β 80 l k x + clearing β Vel + rounds β mode
-  hold_read_left mode k p l (Ok (Goes q)) = omega arith
-  hold_read_left mode k p l (Ok (Ends v)) = omega arith
+  hold_read_left mode k p l (Ok (Continue q)) = omega arith
+  hold_read_left mode k p l (Ok (Break v)) = omega arith
   hold_read_left mode k p l (Err failure) = omega arith
 
   finish_left : (mode : ControlMode) (k : κ.Known) (n : ℕ) (p : Progress) (x : Finishing) → switched_left β mode k (after_finish n p x) ≤ holding β mode + mode_reading β + more_rounds β mode n
@@ -279,11 +276,11 @@ module _ {κ : Clocked} (β : Budget κ) where
   finish_left mode k n p Finish.Done = omega arith
 
   written_mode_left : (mode : ControlMode) (k : κ.Known) (n : ℕ) (p : Progress) (x : Stepped Write (Unit {0})) → switched_left β mode k (after_mode_write n p x) ≤ written_left β 10 (mode_value mode) k x + finishing β mode + mode_reading β + more_rounds β mode n
-  written_mode_left mode k n p (Ok (Goes w)) = omega arith
-  written_mode_left mode k n p (Ok (Ends written)) = omega arith
+  written_mode_left mode k n p (Ok (Continue w)) = omega arith
+  written_mode_left mode k n p (Ok (Break written)) = omega arith
   written_mode_left mode k n p (Err failure) = omega arith
 
-  held_left : (mode : ControlMode) (k : κ.Known) (n : ℕ) (p : Progress) (x : Result (Unit {0}) Failure) → switched_left β mode k (and_then (held x) (after_finish n p)) ≤ mode_reading β + more_rounds β mode n
+  held_left : (mode : ControlMode) (k : κ.Known) (n : ℕ) (p : Progress) (x : Result (Unit {0}) Failure) → switched_left β mode k (and_then x (λ sent. after_finish n p Finish.Done)) ≤ mode_reading β + more_rounds β mode n
   held_left mode k n p (Ok sent) = omega arith
   held_left mode k n p (Err failure) = omega arith
 
@@ -344,8 +341,8 @@ module _ {κ : Clocked} (β : Budget κ) where
 
   -- a step in terms of the run leaves what its phase leaves
   mapped_left : {S T R U : Type 0} (f : S → R) (g : T → U) (h : R → ℕ) (x : Stepped S T) → stepped_left h (map_stepped f g x) ≡ stepped_left (λ s. h (f s)) x
-  mapped_left f g h (Ok (Goes s)) = refl
-  mapped_left f g h (Ok (Ends t)) = refl
+  mapped_left f g h (Ok (Continue s)) = refl
+  mapped_left f g h (Ok (Break t)) = refl
   mapped_left f g h (Err failure) = refl
 
   pub falls : (k : κ.Known) (latest : Option FeedbackSnapshot) (e : Entry) (m : Machine) (a : Answer) → fine κ (machine_want m) a k → weigh β (machine_want m) + left β (known_after κ (machine_want m) a k) (machine_step latest e m a) ≤ machine_left β k m
@@ -419,8 +416,8 @@ module _ {κ : Clocked} (β : Budget κ) where
       (Some w)
 
   on_option : {S T : Type 0} (left_at : κ.Known → S → ℕ) (k : κ.Known) (x : Stepped S T) → option_left left_at k (phase_of x) ≡ stepped_left (left_at k) x
-  on_option left_at k (Ok (Goes s)) = refl
-  on_option left_at k (Ok (Ends t)) = refl
+  on_option left_at k (Ok (Continue s)) = refl
+  on_option left_at k (Ok (Break t)) = refl
   on_option left_at k (Err failure) = refl
 
   pub ack_bounded : (v : RegisterValue) (gs : List Given) (k : κ.Known) (q : AckWait) → AllFine κ (acking v) gs k (Some q) → total (weigh β) (wants_from (acking v) gs (Some q)) ≤ ack_left β k q

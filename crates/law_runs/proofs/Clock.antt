@@ -11,6 +11,7 @@ use Rattle.time.specs.declared.Instant.{Instant}
 use Rattle.time.specs.declared.Duration.{Duration}
 use Rattle.run_want.specs.declared.Answer.{Answer}
 use Rattle.run_want.specs.declared.Want.{Want}
+use Rattle.run_want.specs.declared.message.Message.{Message}
 use Rattle.run_want.specs.declared.Want.TheVariants as Want
 use Rattle.run_wait.specs.Wait.{late, poll_interval}
 use Rattle.run_wait.specs.declared.Wait.{Wait}
@@ -38,12 +39,12 @@ by_message weight = record {
   after_sleep = λ l k o. omega arith;
 }
 
-one_fine : (w : Want) (a : Answer) → fine unclocked w a tt
+one_fine : (w : Want Message) (a : Answer) → fine unclocked w a tt
 one_fine Want.Clock a = tt
 one_fine (Want.Send message) a = tt
 one_fine (Want.Sleep length) a = tt
 
-known_nothing : (w : Want) (a : Answer) → known_after unclocked w a tt ≡ tt
+known_nothing : (w : Want Message) (a : Answer) → known_after unclocked w a tt ≡ tt
 known_nothing Want.Clock a = refl
 known_nothing (Want.Send message) a = refl
 known_nothing (Want.Sleep length) a = refl

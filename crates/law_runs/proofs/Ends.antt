@@ -1,5 +1,5 @@
 -- What a wait saw where it ends: something fresh, or its deadline. Assumes nothing.
-use Rattle.std.specs.Prelude.{Option, Some, Result, Ok, Err, None}
+use Rattle.std.specs.Prelude.{Option, Some, Result, Ok, Err, None, option_map}
 use Prim.Native.Nat.{ℕ, zero, suc, ◌≤◌}
 use mathlib.Core.Path.{◌≡◌, refl, sym, subst}
 use mathlib.Core.Bool.{Bool, true, false, cond}
@@ -16,14 +16,15 @@ use Rattle.state_cache.specs.declared.Entry.TheVariants.{Empty, Held}
 use Rattle.run_want.specs.Want.{reading_of, send_outcome}
 use Rattle.run_want.specs.declared.Answer.{Answer}
 use Rattle.run_want.specs.declared.Failure.TheVariants.{Mismatch, WrongType}
-use Rattle.run_wait.specs.Ask.{ask_waited}
+use Rattle.run_wait.specs.Ask.{ask_waited, looked}
+use Rattle.state_cache.specs.Cache.{value_in}
 use Rattle.run_wait.specs.Look.{fresh_entry, fresh_record}
 use Rattle.run_wait.specs.Wait.{late}
 use Rattle.run_wait.specs.declared.Wait.TheVariants.{Checking, Napping}
 use Rattle.run_wait.specs.declared.Waited.TheVariants as Waited
 use Rattle.run_wait.specs.declared.ask.Ask.{Ask}
 use Rattle.run_wait.specs.declared.ask.Ask.TheVariants.{Opening, Sending, Waiting}
-use Rattle.run_read.specs.Read.{reply_found, read_by, read_step, get_by, get_step}
+use Rattle.run_read.specs.Read.{read_by, read_step, get_by, get_step}
 use Rattle.run_write.specs.Ack.{ack_timeout, ack_waited, ack_step}
 use Rattle.run_write.specs.Ack as AckSpec
 use Rattle.run_write.specs.declared.ack.AckWait.{AckWait}
@@ -31,7 +32,7 @@ use Rattle.run_write.specs.declared.ack.AckWait.TheVariants as AckWait
 use Rattle.run_write.specs.Write.{write_waited, write_step}
 use Rattle.run_want.specs.Step.{Stepped, goes, ends}
 use Rattle.run_want.specs.declared.Failure.{Failure}
-use Rattle.run_want.specs.declared.step.Step.TheVariants.{Goes, Ends}
+use Rattle.std.specs.declared.ops.ControlFlow.TheVariants.{Continue, Break}
 use Rattle.run_wait.specs.declared.Waited.{Waited}
 use Rattle.state_feedback.specs.declared.FeedbackSnapshot.{FeedbackSnapshot}
 use Rattle.state_feedback.specs.declared.MotorFeedbackState.{MotorFeedbackState}
@@ -39,21 +40,20 @@ use Rattle.motor_core.specs.Outcome.{and_then}
 use Rattle.run_write.specs.declared.Write.{Write}
 use Rattle.run_write.specs.declared.Write.TheVariants as Write
 use Rattle.run_fresh.specs.State.{state_by, state_step}
-use Rattle.run_fresh.specs.State as StateSpec
 use Rattle.law_runs.specs.Ends.{ask_opening, ack_opening, HoldsFresh, Look, Since, ReadSaw, GetSaw, AckSaw, StateSaw, WriteSaw}
 
 module _ (l : Duration) (answer : Answer) where
   -- ---- the register read
 
   module _ (entry : Entry) where
-    read_look_saw : (ask : Ask) (o : Instant) → Look ask answer o → Since ask answer o → ReadSaw l entry ask answer (Ok (reply_found o (fresh_entry o entry)))
+    read_look_saw : (ask : Ask) (o : Instant) → Look ask answer o → Since ask answer o → ReadSaw l entry ask answer (Ok (looked o (value_in (fresh_entry o entry))))
     read_look_saw ask o look since = go entry refl
       where
-        go : (e : Entry) → entry ≡ e → ReadSaw l entry ask answer (Ok (reply_found o (fresh_entry o e)))
+        go : (e : Entry) → entry ≡ e → ReadSaw l entry ask answer (Ok (looked o (value_in (fresh_entry o e))))
         go Empty is = since
         go (Held value stamp) is = fresh (leb o.0 stamp.0) refl
           where
-            fresh : (b : Bool) → leb o.0 stamp.0 ≡ b → ReadSaw l entry ask answer (Ok (reply_found o (cond b (Held value stamp) Empty)))
+            fresh : (b : Bool) → leb o.0 stamp.0 ≡ b → ReadSaw l entry ask answer (Ok (looked o (value_in (cond b (Held value stamp) Empty))))
             fresh true e = (o, look, record { stamp = stamp; holds = is; fresh = leb-true _ _ e })
             fresh false e = since
 
@@ -75,8 +75,8 @@ module _ (l : Duration) (answer : Answer) where
     get_saw data_type ask = go (read_step l entry ask answer) (read_saw ask)
       where
         go : (x : Stepped Ask RegisterValue) → ReadSaw l entry ask answer x → GetSaw data_type l entry ask answer (and_then x (get_by data_type))
-        go (Ok (Goes next)) saw = saw
-        go (Ok (Ends value)) saw = typed (of_type value data_type) refl
+        go (Ok (Continue next)) saw = saw
+        go (Ok (Break value)) saw = typed (of_type value data_type) refl
           where
             typed : (b : Bool) → of_type value data_type ≡ b → GetSaw data_type l entry ask answer (and_then (cond b (Ok value) (Err WrongType)) ends)
             typed true e = (saw, e)
@@ -86,14 +86,17 @@ module _ (l : Duration) (answer : Answer) where
   -- ---- the fresh-state request
 
   module _ (latest : Option FeedbackSnapshot) where
-    state_look_saw : (ask : Ask) (o : Instant) → ask_opening ask ≡ Some o → StateSaw l latest ask answer (Ok (StateSpec.record_found o (fresh_record o latest)))
+    abbrev state_in : FeedbackSnapshot → Option MotorFeedbackState
+    state_in s = Some s.state
+
+    state_look_saw : (ask : Ask) (o : Instant) → ask_opening ask ≡ Some o → StateSaw l latest ask answer (Ok (looked o (option_map state_in (fresh_record o latest))))
     state_look_saw ask o opened = go latest refl
       where
-        go : (x : Option FeedbackSnapshot) → latest ≡ x → StateSaw l latest ask answer (Ok (StateSpec.record_found o (fresh_record o x)))
+        go : (x : Option FeedbackSnapshot) → latest ≡ x → StateSaw l latest ask answer (Ok (looked o (option_map state_in (fresh_record o x))))
         go None is = tt
         go (Some s) is = fresh (leb o.0 s.received_at.0) refl
           where
-            fresh : (b : Bool) → leb o.0 s.received_at.0 ≡ b → StateSaw l latest ask answer (Ok (StateSpec.record_found o (cond b (Some s) None)))
+            fresh : (b : Bool) → leb o.0 s.received_at.0 ≡ b → StateSaw l latest ask answer (Ok (looked o (option_map state_in (cond b (Some s) None))))
             fresh true e = (o, opened, record { snapshot = s; is_latest = is; its_state = refl; fresh = leb-true _ _ e })
             fresh false e = tt
 
@@ -127,7 +130,7 @@ module _ (value : RegisterValue) (entry : Entry) (answer : Answer) where
               seen : HoldsFresh (ack_opening ack answer) entry got
               seen = record { stamp = stamp; holds = is; fresh = subst (λ (x : Instant). x.0 ≤ stamp.0) (sym opened) (leb-true _ _ e) }
 
-              same : (b : Bool) → same_value got value ≡ b → AckSaw value entry ack answer (cond b (Ok (Ends tt)) (Err (Mismatch got)))
+              same : (b : Bool) → same_value got value ≡ b → AckSaw value entry ack answer (cond b (Ok (Break tt)) (Err (Mismatch got)))
               same true h = (got, seen, h)
               same false h = inl (got, seen, h, refl)
           fresh false e = tt
@@ -152,8 +155,8 @@ module _ (value : RegisterValue) (entry : Entry) (answer : Answer) where
   write_saw (Write.Waiting n ack) = go n (ack_step value entry ack answer) (ack_saw ack)
     where
       go : (n : ℕ) (x : Stepped AckWait (Unit {0})) → AckSaw value entry ack answer x → WriteSaw value entry (Write.Waiting n ack) answer (write_waited n x)
-      go n (Ok (Goes next)) saw = tt
-      go n (Ok (Ends acked)) saw = (n, ack, refl, saw)
+      go n (Ok (Continue next)) saw = tt
+      go n (Ok (Break acked)) saw = (n, ack, refl, saw)
       go zero (Err failure) saw = inr (ack, refl, saw)
       go (suc m) (Err failure) saw = tt
   write_saw (Write.Gap n) = tt

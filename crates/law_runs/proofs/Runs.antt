@@ -7,6 +7,7 @@ use native.Mathlib.Omega.{arith}
 use lib.ListN.{length}
 use Rattle.registers.specs.Value.{bits_of}
 use Rattle.run_want.specs.declared.Want.{Want}
+use Rattle.run_want.specs.declared.message.Message.{Message}
 use Rattle.run_want.specs.declared.Want.TheVariants.{Clock, Send, Sleep}
 use Rattle.run_wait.specs.declared.Wait.TheVariants.{Checking}
 use Rattle.run_write.specs.declared.ack.AckWait.TheVariants as AckWait
@@ -20,7 +21,7 @@ use Rattle.law_runs.proofs.Budget.{wait_bounded, ack_bounded, run_bounded}
 use Rattle.law_runs.proofs.Clock.{by_message, all_fine, by_clock}
 
 -- A machine that has been answered as often as it can want has ended.
-one_want : (w : Want) → any_want w ≡ 1
+one_want : (w : Want Message) → any_want w ≡ 1
 one_want Clock = refl
 one_want (Send message) = refl
 one_want (Sleep length) = refl

@@ -3,7 +3,7 @@ use Rattle.std.specs.Prelude.{ℕ, zero, suc, ◌+◌, ◌≤◌, ◌≡◌, fal
 use Rattle.state_feedback.specs.declared.MotorFeedbackState.{MotorFeedbackState}
 use Rattle.run_want.specs.Step.{Stepped}
 use Rattle.run_want.specs.declared.Failure.{Failure}
-use Rattle.run_want.specs.declared.step.Step.TheVariants.{Goes, Ends}
+use Rattle.std.specs.declared.ops.ControlFlow.TheVariants.{Continue, Break}
 use Rattle.run_wait.specs.declared.Waited.{Waited}
 use Rattle.run_wait.specs.declared.Waited.TheVariants as Waited
 use Rattle.run_machine.specs.declared.Outcome.{Outcome}
@@ -60,12 +60,12 @@ pub record Budget (κ : Clocked) : Type 1 where
 
 -- what a step leaves to a run, by what its phase leaves: nothing where it ends or fails
 abbrev pub stepped_left : {S T : Type 0} → (S → ℕ) → Stepped S T → ℕ
-stepped_left left (Ok (Goes s)) = left s
-stepped_left left (Ok (Ends t)) = 0
+stepped_left left (Ok (Continue s)) = left s
+stepped_left left (Ok (Break t)) = 0
 stepped_left left (Err failure) = 0
 
 module _ {κ : Clocked} (β : Budget κ) where
-  abbrev pub weigh : Want → ℕ
+  abbrev pub weigh : Want Message → ℕ
   weigh = counted β.clock β.send β.sleep
 
   -- asking, by the message that is sent; a look that finds nothing leaves a wait

@@ -6,6 +6,7 @@ use Rattle.time.specs.declared.Duration.{Duration}
 use Rattle.run_want.specs.Want.{reading_of}
 use Rattle.run_want.specs.declared.Answer.{Answer}
 use Rattle.run_want.specs.declared.Want.{Want}
+use Rattle.run_want.specs.declared.message.Message.{Message}
 use Rattle.run_want.specs.declared.Want.TheVariants as Want
 use Rattle.law_runs.specs.Trace.{Given, System}
 
@@ -17,12 +18,12 @@ pub record Clocked : Type 1 where
   pub Fine : Known → Instant → Type 0
 
 module _ (κ : Clocked) where
-  abbrev pub known_after : Want → Answer → κ.Known → κ.Known
+  abbrev pub known_after : Want Message → Answer → κ.Known → κ.Known
   known_after Want.Clock a k = κ.hear (reading_of a)
   known_after (Want.Send message) a k = k
   known_after (Want.Sleep length) a k = κ.nap length k
 
-  abbrev pub fine : Want → Answer → κ.Known → Type 0
+  abbrev pub fine : Want Message → Answer → κ.Known → Type 0
   fine Want.Clock a k = κ.Fine k (reading_of a)
   fine (Want.Send message) a k = Unit {0}
   fine (Want.Sleep length) a k = Unit {0}

@@ -1,7 +1,7 @@
 -- What the end of a wait has seen. Definitions only.
 use Rattle.std.specs.Prelude.{ℕ, ◌+◌, ◌≤◌, ◌≡◌, true, false, ◌⊎◌, Option, Some, None, Ok, Err}
 use Rattle.run_want.specs.Step.{Stepped}
-use Rattle.run_want.specs.declared.step.Step.TheVariants.{Goes, Ends}
+use Rattle.std.specs.declared.ops.ControlFlow.TheVariants.{Continue, Break}
 use Rattle.time.specs.declared.Instant.{Instant}
 use Rattle.time.specs.declared.Duration.{Duration}
 use Rattle.registers.specs.Value.{same_value, of_type}
@@ -86,34 +86,34 @@ LedTo ask answer (Waiting w) = Since ask answer (wait_opening w)
 
 -- what a register read has seen with an answer
 abbrev pub ReadSaw : Duration → Entry → Ask → Answer → Stepped Ask RegisterValue → Type 0
-ReadSaw l entry ask answer (Ok (Goes next)) = LedTo ask answer next
-ReadSaw l entry ask answer (Ok (Ends value)) = (o : Instant) × Look ask answer o × HoldsFresh o entry value
+ReadSaw l entry ask answer (Ok (Continue next)) = LedTo ask answer next
+ReadSaw l entry ask answer (Ok (Break value)) = (o : Instant) × Look ask answer o × HoldsFresh o entry value
 ReadSaw l entry ask answer (Err failure) = AskUnsent ask failure answer ⊎ ((o : Instant) × (ask_opening ask ≡ Some o) × Past o l answer × (failure ≡ Timeout))
 
 -- a read of a type: besides, that what it found is of the type, or of the other
 abbrev pub GetSaw : RegisterDataType → Duration → Entry → Ask → Answer → Stepped Ask RegisterValue → Type 0
-GetSaw data_type l entry ask answer (Ok (Goes next)) = LedTo ask answer next
-GetSaw data_type l entry ask answer (Ok (Ends value)) = ReadSaw l entry ask answer (Ok (Ends value)) × (of_type value data_type ≡ true)
+GetSaw data_type l entry ask answer (Ok (Continue next)) = LedTo ask answer next
+GetSaw data_type l entry ask answer (Ok (Break value)) = ReadSaw l entry ask answer (Ok (Break value)) × (of_type value data_type ≡ true)
 GetSaw data_type l entry ask answer (Err failure) =
-    ReadSaw l entry ask answer (Err failure) ⊎ ((value : RegisterValue) × ReadSaw l entry ask answer (Ok (Ends value)) × (of_type value data_type ≡ false) × (failure ≡ WrongType))
+    ReadSaw l entry ask answer (Err failure) ⊎ ((value : RegisterValue) × ReadSaw l entry ask answer (Ok (Break value)) × (of_type value data_type ≡ false) × (failure ≡ WrongType))
 
 -- an ack wait
 abbrev pub AckSaw : RegisterValue → Entry → AckWait → Answer → Stepped AckWait (Unit {0}) → Type 0
-AckSaw value entry ack answer (Ok (Goes next)) = Unit {0}
-AckSaw value entry ack answer (Ok (Ends acked)) = (got : RegisterValue) × HoldsFresh (ack_opening ack answer) entry got × (same_value got value ≡ true)
+AckSaw value entry ack answer (Ok (Continue next)) = Unit {0}
+AckSaw value entry ack answer (Ok (Break acked)) = (got : RegisterValue) × HoldsFresh (ack_opening ack answer) entry got × (same_value got value ≡ true)
 AckSaw value entry ack answer (Err failure) =
     ((got : RegisterValue) × HoldsFresh (ack_opening ack answer) entry got × (same_value got value ≡ false) × (failure ≡ Mismatch got)) ⊎ (Past (ack_opening ack answer) ack_timeout answer × (failure ≡ Timeout))
 
 -- a fresh-state request
 abbrev pub StateSaw : Duration → Option FeedbackSnapshot → Ask → Answer → Stepped Ask (Option MotorFeedbackState) → Type 0
-StateSaw l latest ask answer (Ok (Goes next)) = Unit {0}
-StateSaw l latest ask answer (Ok (Ends (Some state))) = (o : Instant) × (ask_opening ask ≡ Some o) × Reported o latest state
-StateSaw l latest ask answer (Ok (Ends None)) = (o : Instant) × (ask_opening ask ≡ Some o) × Past o l answer
+StateSaw l latest ask answer (Ok (Continue next)) = Unit {0}
+StateSaw l latest ask answer (Ok (Break (Some state))) = (o : Instant) × (ask_opening ask ≡ Some o) × Reported o latest state
+StateSaw l latest ask answer (Ok (Break None)) = (o : Instant) × (ask_opening ask ≡ Some o) × Past o l answer
 StateSaw l latest ask answer (Err failure) = AskUnsent ask failure answer
 
 -- a confirmed write: an ack wait's end, for a failure that of the last try; or a send that failed
 abbrev pub WriteSaw : RegisterValue → Entry → Write → Answer → Stepped Write (Unit {0}) → Type 0
-WriteSaw value entry write answer (Ok (Goes next)) = Unit {0}
-WriteSaw value entry write answer (Ok (Ends written)) = (n : ℕ) × (ack : AckWait) × (write ≡ Write.Waiting n ack) × AckSaw value entry ack answer (Ok (Ends tt))
+WriteSaw value entry write answer (Ok (Continue next)) = Unit {0}
+WriteSaw value entry write answer (Ok (Break written)) = (n : ℕ) × (ack : AckWait) × (write ≡ Write.Waiting n ack) × AckSaw value entry ack answer (Ok (Break tt))
 WriteSaw value entry write answer (Err failure) =
     ((n : ℕ) × (write ≡ Write.Sending n) × Unsent failure answer) ⊎ ((ack : AckWait) × (write ≡ Write.Waiting 0 ack) × AckSaw value entry ack answer (Err failure))

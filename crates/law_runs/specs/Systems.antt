@@ -1,7 +1,7 @@
 -- The machines that the laws are about, each by itself. Definitions only.
 use Rattle.std.specs.Prelude.{Bool, cond, Ok, Err, None, Option, Some}
 use Rattle.run_want.specs.Step.{Stepped}
-use Rattle.run_want.specs.declared.step.Step.TheVariants.{Goes, Ends}
+use Rattle.std.specs.declared.ops.ControlFlow.TheVariants.{Continue, Break}
 use Rattle.time.specs.declared.Instant.{Instant}
 use Rattle.time.specs.declared.Duration.{Duration}
 use Rattle.registers.specs.declared.RegisterValue.{RegisterValue}
@@ -28,8 +28,8 @@ waiting length finds = record { At = Wait; want = wait_want; next = λ g w. stil
 
 -- the phase that a step goes on to, unless it ends or fails
 abbrev pub phase_of : {S T : Type 0} → Stepped S T → Option S
-phase_of (Ok (Goes s)) = Some s
-phase_of (Ok (Ends t)) = None
+phase_of (Ok (Continue s)) = Some s
+phase_of (Ok (Break t)) = None
 phase_of (Err failure) = None
 
 -- an ack wait

@@ -18,12 +18,12 @@ pub record Given : Type 0 where
 -- what is wanted where it stands, and where an answer leads: nowhere, once it has ended
 pub record System : Type 1 where
   pub At : Type 0
-  pub want : At → Want
+  pub want : At → Want Message
   pub next : Given → At → Option At
 
 module _ (σ : System) where
   -- the want that is open, and those that follow until the end
-  unfoldable pub wants_from : List Given → Option σ.At → List Want
+  unfoldable pub wants_from : List Given → Option σ.At → List (Want Message)
   wants_from [] None = []
   wants_from [] (Some m) = σ.want m ∷ []
   wants_from (g ∷ gs) None = []
@@ -51,17 +51,17 @@ label StoreParams = store
 label (Setpoint mode position) = hold mode
 
 -- wants counted by their kinds, a send by its command
-abbrev pub counted : (clock : ℕ) (send : Label → ℕ) (sleep : ℕ) → Want → ℕ
+abbrev pub counted : (clock : ℕ) (send : Label → ℕ) (sleep : ℕ) → Want Message → ℕ
 counted clock send sleep Clock = clock
 counted clock send sleep (Send message) = send (label message)
 counted clock send sleep (Sleep length) = sleep
 
-abbrev pub a_sleep : Want → ℕ
+abbrev pub a_sleep : Want Message → ℕ
 a_sleep = counted 0 (λ command. 0) 1
 
-abbrev pub any_want : Want → ℕ
+abbrev pub any_want : Want Message → ℕ
 any_want = counted 1 (λ command. 1) 1
 
-unfoldable pub total : (Want → ℕ) → List Want → ℕ
+unfoldable pub total : (Want Message → ℕ) → List (Want Message) → ℕ
 total f [] = 0
 total f (w ∷ ws) = f w + total f ws

@@ -12,6 +12,7 @@ use Rattle.state_cache.specs.declared.Entry.TheVariants.{Empty}
 use Rattle.protocol_hold.specs.Mode.{mode_number}
 use Rattle.protocol_hold.specs.declared.ControlMode.{ControlMode}
 use Rattle.run_want.specs.declared.Want.{Want}
+use Rattle.run_want.specs.declared.message.Message.{Message}
 use Rattle.run_want.specs.declared.Want.TheVariants.{Clock}
 use Rattle.switch_stage.specs.Stage.{switch_want}
 use Rattle.switch_stage.specs.declared.Switch.TheVariants.{Starting}
@@ -20,7 +21,7 @@ use Rattle.run_machine.specs.Machine.{RunResult}
 use Rattle.session.specs.declared.Head.{Head}
 use Rattle.session.specs.declared.Session.{Session}
 use Rattle.session_step.specs.declared.Told.TheVariants as Told
-use Rattle.session_answer.specs.declared.AfterCall.{AfterCall}
+use Rattle.session_answer.specs.Answer.{AfterCall}
 use Rattle.run_machine.specs.Machine.{machine_want}
 use Rattle.session_step.specs.Parts.{caller_want}
 use Rattle.run_arguments.specs.Arguments.{mode_start}
@@ -41,7 +42,7 @@ use Rattle.law_switch.proofs.Success.{done_found, found_done}
 use Rattle.law_switch.proofs.Told as Count
 use Rattle.law_switch.proofs.Traced.{none≢some, Traced, traced}
 use Rattle.session.specs.Session.{with_run}
-use Rattle.session_step.specs.declared.Wanted.TheVariants as Wanted
+use Rattle.run_want.specs.declared.Want.TheVariants as Wanted
 
 -- ---- of one switch, by how it ran
 
@@ -58,7 +59,7 @@ module _ (h : Head) (mode : ControlMode) (timeout : Duration) (ts : List Turn) (
   abbrev counted_in : (Gave → Bool) → ℕ
   counted_in f = count f (first ∷ gaves ts)
 
-  abbrev wanted_in : (Want → ℕ) → ℕ
+  abbrev wanted_in : (Want Message → ℕ) → ℕ
   wanted_in w = Trace.total w (Trace.wants_from running trace.gs (Some (machine h mode timeout Starting)))
 
   -- counted in what was returned, or in what the definition wants: the same

@@ -8,6 +8,7 @@ use Rattle.time.specs.declared.Duration.{Duration}
 use Rattle.protocol_hold.specs.declared.ControlMode.{ControlMode}
 use Rattle.run_want.specs.declared.Answer.{Answer}
 use Rattle.run_want.specs.declared.Want.{Want}
+use Rattle.run_want.specs.declared.message.Message.{Message}
 use Rattle.run_want.specs.declared.Want.TheVariants.{Clock, Send, Sleep}
 use Rattle.switch_stage.specs.Stage.{switch_want}
 use Rattle.switch_step.specs.Switch.{switch_step}
@@ -20,17 +21,17 @@ use Rattle.session.specs.declared.Head.{Head}
 use Rattle.session.specs.declared.Session.{Session}
 use Rattle.session_step.specs.Parts.{caller_want, with_reading, stepped}
 use Rattle.session_answer.specs.Answer.{with_step, answer_run}
-use Rattle.session_answer.specs.declared.AfterCall.{AfterCall}
+use Rattle.session_answer.specs.Answer.{AfterCall}
 use Rattle.session_answer.proofs.Effects.{entry, answer_taken, answerable}
 use Rattle.run_machine.specs.declared.Outcome.{Outcome}
 use Rattle.run_want.specs.Step.{Stepped}
-use Rattle.run_want.specs.declared.step.Step.TheVariants.{Goes, Ends}
+use Rattle.std.specs.declared.ops.ControlFlow.TheVariants.{Continue, Break}
 use Rattle.law_switch.specs.Claim.{Answered, answer, told, step, Gave, Turn, result_in, result_of, gave_after, Accepted}
 use Rattle.law_switch.proofs.Ran.{machine, onward_cases, Ran}
 use Rattle.law_switch.proofs.Traced.{none≢some, want_on, end_of}
 use Rattle.session_step.specs.declared.Told.TheVariants as Told
 
-wants_accepted : (h : Head) (w : Want) → Accepted (Ok (Told.Want (caller_want h w)))
+wants_accepted : (h : Head) (w : Want Message) → Accepted (Ok (Told.Want (caller_want h w)))
 unfolding Accepted
 wants_accepted h w = tt
 
@@ -57,8 +58,8 @@ module _ (h : Head) (mode : ControlMode) (timeout : Duration) (z : Session) wher
       (a, (answer_run z a).told, refl, subst (λ (r : AfterCall). Accepted r.told) (sym (answer_taken z a (machine h mode timeout p) o fit taken)) (go a (machine_step z.head.feedback.latest (entry z) (machine h mode timeout p) a)))
     where
       go : (a : Answer) (x : Stepped Machine Outcome) → Accepted (with_step z (Ok (stepped (with_reading z.head a) x))).told
-      go a (Ok (Goes m)) = wants_accepted (with_reading z.head a) (machine_want m)
-      go a (Ok (Ends r)) = tt
+      go a (Ok (Continue m)) = wants_accepted (with_reading z.head a) (machine_want m)
+      go a (Ok (Break r)) = tt
       go a (Err failure) = tt
 
   pub answered : (ts : List Turn) (p : Switch) (l : Instant) → Ran h mode timeout z p l ts → result_of ts ≡ None → Answerable

@@ -13,6 +13,7 @@ use Rattle.registers.specs.declared.RegisterValue.TheVariants.{Float, Nan, UInt3
 use Rattle.protocol_hold.specs.Mode.{mode_number}
 use Rattle.protocol_hold.specs.declared.ControlMode.{ControlMode}
 use Rattle.protocol_hold.specs.declared.ControlMode.TheVariants.{Mit, PosVel, Vel, ForcePos}
+use Rattle.state_cache.specs.Cache.{value_in}
 use Rattle.state_cache.specs.declared.Entry.{Entry}
 use Rattle.state_cache.specs.declared.Entry.TheVariants.{Empty, Held}
 use Rattle.state_cache.specs.declared.Place.TheVariants.{Reply}
@@ -22,23 +23,25 @@ use Rattle.run_want.specs.declared.Answer.TheVariants.{Slept}
 use Rattle.run_want.specs.declared.Failure.{Failure}
 use Rattle.run_want.specs.declared.Failure.TheVariants as Failure
 use Rattle.run_want.specs.declared.Want.{Want}
+use Rattle.run_want.specs.declared.message.Message.{Message}
 use Rattle.run_want.specs.declared.Want.TheVariants.{Clock, Send, Sleep}
 use Rattle.motor_core.specs.Outcome.{and_then}
 use Rattle.run_want.specs.Step.{Stepped}
-use Rattle.run_want.specs.declared.step.Step.TheVariants.{Goes, Ends}
+use Rattle.std.specs.declared.ops.ControlFlow.TheVariants.{Continue, Break}
 use Rattle.run_wait.specs.declared.Waited.TheVariants as Waited
 use Rattle.run_write.specs.declared.Write.{Write}
 use Rattle.run_wait.specs.Look.{fresh_entry}
 use Rattle.run_wait.specs.declared.Wait.TheVariants.{Checking, Napping}
 use Rattle.run_wait.specs.declared.ask.Ask.{Ask}
 use Rattle.run_wait.specs.declared.ask.Ask.TheVariants.{Opening, Sending, Waiting}
-use Rattle.run_read.specs.Read.{read_want, reply_found, read_by, get_by, get_step}
+use Rattle.run_wait.specs.Ask.{looked}
+use Rattle.run_read.specs.Read.{read_want, read_by, get_by, get_step}
 use Rattle.run_write.specs.declared.ack.AckWait.TheVariants as Ack
 use Rattle.run_write.specs.declared.Write.TheVariants as Write
 use Rattle.run_write.specs.Write.{write_step}
 use Rattle.switch_stage.specs.Stage.{mode_value, switch_want, switch_place}
 use Rattle.switch_prepare.specs.Prepare.{prepare, after_hold_read, cleared, hold_timed}
-use Rattle.switch_finish.specs.Finish.{finish, held}
+use Rattle.switch_finish.specs.Finish.{finish}
 use Rattle.switch_finish.specs.declared.Finishing.{Finishing}
 use Rattle.switch_finish.specs.declared.Finishing.TheVariants as Finish
 use Rattle.switch_write.specs.WriteMode.{after_prepare, after_mode_write, after_finish, settled}
@@ -71,7 +74,7 @@ mode_ask (Begun p (Holding n)) = None
 module _ (mode : ControlMode) where
   abbrev About : Switch → Option Ask → Type 0
   About p None = Unit {0}
-  About p (Some ask) = (switch_want mode p ≡ read_want 10 ask) × (switch_place p ≡ Reply 10)
+  About p (Some ask) = (switch_want mode p ≡ read_want 10 ask) × (switch_place p ≡ Some (Reply 10))
 
   about : (p : Switch) → About p (mode_ask p)
   about Starting = tt
@@ -85,7 +88,7 @@ module _ (mode : ControlMode) where
   about (Begun p (SettleSleep n l)) = tt
   about (Begun p (Holding n)) = tt
 
-  pub in_read : (p : Switch) (ask : Ask) → mode_ask p ≡ Some ask → (switch_want mode p ≡ read_want 10 ask) × (switch_place p ≡ Reply 10)
+  pub in_read : (p : Switch) (ask : Ask) → mode_ask p ≡ Some ask → (switch_want mode p ≡ read_want 10 ask) × (switch_place p ≡ Some (Reply 10))
   in_read p ask e = subst (About p) e (about p)
 
   -- and only a read that is to be sent wants the send of a read of register 10
@@ -138,8 +141,8 @@ module _ (mode : ControlMode) (timeout : Duration) (e : Entry) (a : Answer) wher
     pub found : HoldsFresh opening e (mode_value mode)
 
   abbrev pub Law : Option Ask → Stepped Switch (Unit {0}) → Type 0
-  Law ask (Ok (Goes q)) = Entered ask (mode_ask q)
-  Law ask (Ok (Ends done)) = Saw ask
+  Law ask (Ok (Continue q)) = Entered ask (mode_ask q)
+  Law ask (Ok (Break done)) = Saw ask
   Law ask (Err failure) = Unit {0}
 
   not_yet_law : (ask : Option Ask) (which : ModeRead) (p : Progress) → Law ask (not_yet mode which p)
@@ -157,17 +160,17 @@ module _ (mode : ControlMode) (timeout : Duration) (e : Entry) (a : Answer) wher
   finish_law n p Finish.Holds = tt
   finish_law n p Finish.Done = tt
 
-  held_law : (n : ℕ) (p : Progress) (x : Result (Unit {0}) Failure) → Law None (and_then (held x) (after_finish n p))
+  held_law : (n : ℕ) (p : Progress) (x : Result (Unit {0}) Failure) → Law None (and_then x (λ sent. after_finish n p Finish.Done))
   held_law n p (Ok sent) = tt
   held_law n p (Err failure) = tt
 
   mode_read_law : (which : ModeRead) (p : Progress) (l : Duration) (ask : Ask) (x : Stepped Ask RegisterValue) → GetSaw Typed.UInt32 l e ask a x → Law (Some ask) (after_mode_read mode which p l x)
-  mode_read_law which p l ask (Ok (Goes Opening)) saw = tt
-  mode_read_law which p l ask (Ok (Goes (Sending o))) law = (ap Some law.0, law.1)
-  mode_read_law which p l ask (Ok (Goes (Waiting w))) law = (ask, refl, law)
-  mode_read_law which p l ask (Ok (Ends v)) ((o, look, seen), typed) = go (same_value v (mode_value mode)) refl
+  mode_read_law which p l ask (Ok (Continue Opening)) saw = tt
+  mode_read_law which p l ask (Ok (Continue (Sending o))) law = (ap Some law.0, law.1)
+  mode_read_law which p l ask (Ok (Continue (Waiting w))) law = (ask, refl, law)
+  mode_read_law which p l ask (Ok (Break v)) ((o, look, seen), typed) = go (same_value v (mode_value mode)) refl
     where
-      go : (b : Bool) → same_value v (mode_value mode) ≡ b → Law (Some ask) (cond b (Ok (Ends tt)) (not_yet mode which (with_error p (Failure.Mismatch v))))
+      go : (b : Bool) → same_value v (mode_value mode) ≡ b → Law (Some ask) (cond b (Ok (Break tt)) (not_yet mode which (with_error p (Failure.Mismatch v))))
       go true same = record { read = ask; is = refl; opening = o; look = look; found = subst (HoldsFresh o e) (same_mode v (mode_number mode) same) seen }
       go false same = not_yet_law (Some ask) which (with_error p (Failure.Mismatch v))
   mode_read_law which p l ask (Err Failure.Timeout) law = not_yet_law (Some ask) which (with_error p Failure.Timeout)
@@ -176,8 +179,8 @@ module _ (mode : ControlMode) (timeout : Duration) (e : Entry) (a : Answer) wher
   mode_read_law which p l ask (Err Failure.SendFailed) law = tt
 
   hold_read_law : (p : Progress) (l : Duration) (x : Stepped Ask RegisterValue) → Law None (after_prepare (after_hold_read p l x))
-  hold_read_law p l (Ok (Goes q)) = tt
-  hold_read_law p l (Ok (Ends v)) = tt
+  hold_read_law p l (Ok (Continue q)) = tt
+  hold_read_law p l (Ok (Break v)) = tt
   hold_read_law p l (Err failure) = tt
 
   cleared_law : (c : ControlMode) (p : Progress) → Law None (after_prepare (cleared c p))
@@ -187,8 +190,8 @@ module _ (mode : ControlMode) (timeout : Duration) (e : Entry) (a : Answer) wher
   cleared_law ForcePos p = tt
 
   written_law : (n : ℕ) (p : Progress) (x : Stepped Write (Unit {0})) → Law None (after_mode_write n p x)
-  written_law n p (Ok (Goes w)) = tt
-  written_law n p (Ok (Ends written)) = tt
+  written_law n p (Ok (Continue w)) = tt
+  written_law n p (Ok (Break written)) = tt
   written_law n p (Err failure) = tt
 
   mode_timed_law : (which : ModeRead) (p : Progress) (x : Option Duration) → Law None (mode_timed which p x)
@@ -221,18 +224,18 @@ module _ (mode : ControlMode) (timeout : Duration) (stamp : Instant) where
   abbrev holding_mode : Entry
   holding_mode = Held (mode_value mode) stamp
 
-  found_done : (which : ModeRead) (p : Progress) (l : Duration) (o : Instant) → o.0 ≤ stamp.0 → after_mode_read mode which p l (get_by Typed.UInt32 (reply_found o (fresh_entry o holding_mode))) ≡ Ok (Ends tt)
+  found_done : (which : ModeRead) (p : Progress) (l : Duration) (o : Instant) → o.0 ≤ stamp.0 → after_mode_read mode which p l (get_by Typed.UInt32 (looked o (value_in (fresh_entry o holding_mode)))) ≡ Ok (Break tt)
   unfolding of_type same_value type_of bits_of
   found_done which p l o fresh =
-      ap (λ (b : Bool). after_mode_read mode which p l (get_by Typed.UInt32 (reply_found o (cond b holding_mode Empty)))) (le-leb o.0 stamp.0 fresh)
-      ∙ ap (λ (b : Bool). cond b (Ok (Ends tt)) (not_yet mode which (with_error p (Failure.Mismatch (mode_value mode))))) (eq-eqb (mode_number mode) (mode_number mode) refl)
+      ap (λ (b : Bool). after_mode_read mode which p l (get_by Typed.UInt32 (looked o (value_in (cond b holding_mode Empty))))) (le-leb o.0 stamp.0 fresh)
+      ∙ ap (λ (b : Bool). cond b (Ok (Break tt)) (not_yet mode which (with_error p (Failure.Mismatch (mode_value mode))))) (eq-eqb (mode_number mode) (mode_number mode) refl)
 
   abbrev pub EndsDone : Switch → Option Ask → Answer → Type 0
   EndsDone p None a = Unit {0}
   EndsDone p (Some Opening) a = Unit {0}
-  EndsDone p (Some (Sending o)) a = send_outcome a ≡ Ok tt → o.0 ≤ stamp.0 → switch_step mode timeout holding_mode p a ≡ Ok (Ends tt)
+  EndsDone p (Some (Sending o)) a = send_outcome a ≡ Ok tt → o.0 ≤ stamp.0 → switch_step mode timeout holding_mode p a ≡ Ok (Break tt)
   EndsDone p (Some (Waiting (Checking o))) a = Unit {0}
-  EndsDone p (Some (Waiting (Napping o))) a = o.0 ≤ stamp.0 → switch_step mode timeout holding_mode p a ≡ Ok (Ends tt)
+  EndsDone p (Some (Waiting (Napping o))) a = o.0 ≤ stamp.0 → switch_step mode timeout holding_mode p a ≡ Ok (Break tt)
 
   pub ends_done : (p : Switch) (a : Answer) → EndsDone p (mode_ask p) a
   ends_done Starting a = tt
@@ -270,15 +273,15 @@ Quiet o (Begun p (SettleRemaining n)) = ⊥
 Quiet o (Begun p (SettleSleep n l)) = ⊥
 Quiet o (Begun p (Holding n)) = ⊥
 
-abbrev pub WantsSend : Want → Type 0
+abbrev pub WantsSend : Want Message → Type 0
 WantsSend Clock = ⊥
 WantsSend (Send message) = Unit {0}
 WantsSend (Sleep length) = ⊥
 
 module _ (mode : ControlMode) (timeout : Duration) (e : Entry) (a : Answer) (o : Instant) where
   abbrev pub StaysQuiet : Stepped Switch (Unit {0}) → Type 0
-  StaysQuiet (Ok (Goes q)) = Quiet o q
-  StaysQuiet (Ok (Ends done)) = Unit {0}
+  StaysQuiet (Ok (Continue q)) = Quiet o q
+  StaysQuiet (Ok (Break done)) = Unit {0}
   StaysQuiet (Err failure) = Unit {0}
 
   not_yet_quiet : (which : ModeRead) (p : Progress) → StaysQuiet (not_yet mode which p)
@@ -294,19 +297,19 @@ module _ (mode : ControlMode) (timeout : Duration) (e : Entry) (a : Answer) (o :
 
   -- a read that goes on is in its wait
   abbrev Waits : Stepped Ask RegisterValue → Type 0
-  Waits (Ok (Goes Opening)) = ⊥
-  Waits (Ok (Goes (Sending x))) = ⊥
-  Waits (Ok (Goes (Waiting w))) = wait_opening w ≡ o
-  Waits (Ok (Ends value)) = Unit {0}
+  Waits (Ok (Continue Opening)) = ⊥
+  Waits (Ok (Continue (Sending x))) = ⊥
+  Waits (Ok (Continue (Waiting w))) = wait_opening w ≡ o
+  Waits (Ok (Break value)) = Unit {0}
   Waits (Err failure) = Unit {0}
 
   mode_read_quiet : (which : ModeRead) (p : Progress) (l : Duration) (x : Stepped Ask RegisterValue) → Waits x → StaysQuiet (after_mode_read mode which p l x)
-  mode_read_quiet which p l (Ok (Goes Opening)) w = w
-  mode_read_quiet which p l (Ok (Goes (Sending x))) w = w
-  mode_read_quiet which p l (Ok (Goes (Waiting x))) w = w
-  mode_read_quiet which p l (Ok (Ends v)) w = go (same_value v (mode_value mode))
+  mode_read_quiet which p l (Ok (Continue Opening)) w = w
+  mode_read_quiet which p l (Ok (Continue (Sending x))) w = w
+  mode_read_quiet which p l (Ok (Continue (Waiting x))) w = w
+  mode_read_quiet which p l (Ok (Break v)) w = go (same_value v (mode_value mode))
     where
-      go : (b : Bool) → StaysQuiet (cond b (Ok (Ends tt)) (not_yet mode which (with_error p (Failure.Mismatch v))))
+      go : (b : Bool) → StaysQuiet (cond b (Ok (Break tt)) (not_yet mode which (with_error p (Failure.Mismatch v))))
       go true = tt
       go false = not_yet_quiet which (with_error p (Failure.Mismatch v))
   mode_read_quiet which p l (Err Failure.Timeout) w = not_yet_quiet which (with_error p Failure.Timeout)
@@ -316,10 +319,10 @@ module _ (mode : ControlMode) (timeout : Duration) (e : Entry) (a : Answer) (o :
 
   -- by the law of a read
   waits : (l : Duration) (ask : Ask) (x : Stepped Ask RegisterValue) → ((i : Instant) → Since ask a i → i ≡ o) → (ask ≡ Opening → ⊥) → GetSaw Typed.UInt32 l e ask a x → Waits x
-  waits l ask (Ok (Goes Opening)) same sent law = law
-  waits l ask (Ok (Goes (Sending x))) same sent law = sent law.0
-  waits l ask (Ok (Goes (Waiting w))) same sent law = same (wait_opening w) law
-  waits l ask (Ok (Ends value)) same sent law = tt
+  waits l ask (Ok (Continue Opening)) same sent law = law
+  waits l ask (Ok (Continue (Sending x))) same sent law = sent law.0
+  waits l ask (Ok (Continue (Waiting w))) same sent law = same (wait_opening w) law
+  waits l ask (Ok (Break value)) same sent law = tt
   waits l ask (Err failure) same sent law = tt
 
   abbrev IsSent : Ask → Type 0

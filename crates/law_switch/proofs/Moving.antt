@@ -10,6 +10,7 @@ use Rattle.run_want.specs.Want.{fits}
 use Rattle.run_want.specs.declared.Answer.{Answer}
 use Rattle.run_want.specs.declared.Answer.TheVariants.{Reading, Send as Sending, Slept}
 use Rattle.run_want.specs.declared.Want.{Want}
+use Rattle.run_want.specs.declared.message.Message.{Message}
 use Rattle.run_want.specs.declared.Want.TheVariants.{Clock, Send, Sleep}
 use Rattle.session.specs.declared.Head.{Head}
 use Rattle.session_step.specs.Parts.{caller_want, answer_accepted, with_reading}
@@ -27,7 +28,7 @@ abbrev pub Pending : Known → Option Instant → Type 0
 Pending k next = (r t : Instant) → k.last ≡ Some r → next ≡ Some t → Moved r k.naps t
 
 -- an answer: its reading is fine, and so it goes on
-pub record Goes_on (w : Want) (a : Answer) (k : Known) (h : Head) (next : Option Instant) : Type 0 where
+pub record Goes_on (w : Want Message) (a : Answer) (k : Known) (h : Head) (next : Option Instant) : Type 0 where
   pub is_fine : fine moving w a k
   pub behind : Behind (known_after moving w a k).last (with_reading h a).last
   pub pending : Pending (known_after moving w a k) next
@@ -48,7 +49,7 @@ module _ (told_by : Head) (k : Known) (l : Instant) (h : Head) (since : l.0 ≤ 
       go None b m = tt
       go (Some r) b m = (omega arith, m r refl)
 
-  pub goes_on : (w : Want) (a : Answer) → fits w a ≡ true → answer_accepted h.last a ≡ true → Pending k (reading_or a next) → Moves k.last (Ok (Told.Want (caller_want told_by w))) (reading_or a next) → Goes_on w a k h next
+  pub goes_on : (w : Want Message) (a : Answer) → fits w a ≡ true → answer_accepted h.last a ≡ true → Pending k (reading_or a next) → Moves k.last (Ok (Told.Want (caller_want told_by w))) (reading_or a next) → Goes_on w a k h next
   unfolding reading_or Moved
   goes_on Clock (Reading t) f e p m = record { is_fine = later t (between h.last t e).0 p; behind = omega arith; pending = λ r t e n. tt; read = refl }
   goes_on Clock (Sending result) f e p m = absurd (true≢false (sym f))

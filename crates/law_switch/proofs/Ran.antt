@@ -17,6 +17,7 @@ use Rattle.run_want.specs.Want.{fits}
 use Rattle.run_want.specs.Message.{message_id, message_data}
 use Rattle.run_want.specs.declared.Answer.{Answer}
 use Rattle.run_want.specs.declared.Want.{Want}
+use Rattle.run_want.specs.declared.message.Message.{Message}
 use Rattle.run_want.specs.declared.Want.TheVariants.{Clock, Send, Sleep}
 use Rattle.switch_stage.specs.Stage.{switch_want, switch_place}
 use Rattle.switch_step.specs.Switch.{switch_step}
@@ -24,7 +25,7 @@ use Rattle.switch_stage.specs.declared.Switch.{Switch}
 use Rattle.run_machine.specs.Machine.{machine_want}
 use Rattle.run_step.specs.Step.{machine_step}
 use Rattle.run_want.specs.Step.{Stepped, map_stepped}
-use Rattle.run_want.specs.declared.step.Step.TheVariants.{Goes, Ends}
+use Rattle.std.specs.declared.ops.ControlFlow.TheVariants.{Continue, Break}
 use Rattle.run_machine.specs.declared.Machine.{Machine}
 use Rattle.run_machine.specs.declared.Machine.TheVariants.{EnsureControlMode}
 use Rattle.run_machine.specs.Machine.{RunResult}
@@ -37,7 +38,7 @@ use Rattle.session_frame.proofs.Effects as Frame
 use Rattle.session_step.specs.Parts.{caller_want, answer_accepted, with_reading, stepped}
 use Rattle.session_answer.specs.Answer.{run_place, entry_at, with_step, answer_run}
 use Rattle.session_step.specs.declared.Told.TheVariants as Told
-use Rattle.session_answer.specs.declared.AfterCall.{AfterCall}
+use Rattle.session_answer.specs.Answer.{AfterCall}
 use Rattle.session_answer.proofs.Effects.{entry, answer_cases, answer_taken}
 use Rattle.session_begin.proofs.Effects.{start_cases}
 use Rattle.protocol_frame.specs.Command.{command}
@@ -46,11 +47,11 @@ use Rattle.session.proofs.Patching.{left}
 use Rattle.run_machine.specs.declared.Outcome.{Outcome}
 use Rattle.law_switch.specs.Claim.{Start, Call, start, answer, frame_lent, patch, Returned, told, start_run, step, open_want, events, session_after, Gave, Turn, taken_in, reply_with, turn_in, turn_of, add_turn, turns}
 use Rattle.law_switch.proofs.Sessions.{starting, is_beginning, mode_entry, Sound, answer_sound, patch_sound, frame_sound, frame_entry}
-use Rattle.session_step.specs.declared.Wanted.{Wanted}
-use Rattle.session_step.specs.declared.Wanted.TheVariants as Wanted
+use Rattle.session_step.specs.Parts.{Wanted}
+use Rattle.run_want.specs.declared.Want.TheVariants as Wanted
 
 -- told by the motor id and the limits alone
-same_told : (h k : Head) (w : Want) → h.motor_id ≡ k.motor_id → h.limits ≡ k.limits → caller_want h w ≡ caller_want k w
+same_told : (h k : Head) (w : Want Message) → h.motor_id ≡ k.motor_id → h.limits ≡ k.limits → caller_want h w ≡ caller_want k w
 same_told h k Clock m l = refl
 same_told h k (Send message) m l = λ i. Wanted.Send (command (message_id (m i) message) (message_data (m i) (l i) message))
 same_told h k (Sleep length) m l = refl
@@ -74,7 +75,7 @@ module _ (h : Head) (mode : ControlMode) (timeout : Duration) where
     pub since : l.0 ≤ head.last.0
     pub fit : fits (switch_want mode p) t.answer ≡ true
     pub accepted : answer_accepted head.last t.answer ≡ true
-    pub sees : switch_place p ≡ Reply 10 → entry ≡ t.sees
+    pub sees : switch_place p ≡ Some (Reply 10) → entry ≡ t.sees
 
   -- a step of the switch as one of the run
   abbrev pub after_switch : Stepped Switch (Unit {0}) → Stepped Machine Outcome
@@ -82,16 +83,16 @@ module _ (h : Head) (mode : ControlMode) (timeout : Duration) where
 
   -- and the switch goes on, or ends with this turn
   abbrev pub Onward : (Switch → Type 0) → Stepped Switch (Unit {0}) → Turn → List Turn → Type 0
-  Onward rest (Ok (Goes q)) t ts = (t.gave ≡ gave_want q) × rest q
-  Onward rest (Ok (Ends done)) t ts = (t.gave ≡ gave_result (Ok Outcome.Done)) × (ts ≡ [])
+  Onward rest (Ok (Continue q)) t ts = (t.gave ≡ gave_want q) × rest q
+  Onward rest (Ok (Break done)) t ts = (t.gave ≡ gave_result (Ok Outcome.Done)) × (ts ≡ [])
   Onward rest (Err failure) t ts = (t.gave ≡ gave_result (Err failure)) × (ts ≡ [])
 
   -- by what the step came to
   pub onward_cases : {P : Type 0} (R : Switch → Type 0) (t : Turn) (ts : List Turn) (x : Stepped Switch (Unit {0})) → Onward R x t ts
-      → ((q : Switch) → x ≡ Ok (Goes q) → t.gave ≡ gave_want q → R q → P)
+      → ((q : Switch) → x ≡ Ok (Continue q) → t.gave ≡ gave_want q → R q → P)
       → ((r : RunResult) → phase_of (after_switch x) ≡ None → t.gave ≡ gave_result r → ts ≡ [] → P) → P
-  onward_cases R t ts (Ok (Goes q)) (gave, rest) goes ends = goes q refl gave rest
-  onward_cases R t ts (Ok (Ends done)) (gave, stop) goes ends = ends (Ok Outcome.Done) refl gave stop
+  onward_cases R t ts (Ok (Continue q)) (gave, rest) goes ends = goes q refl gave rest
+  onward_cases R t ts (Ok (Break done)) (gave, stop) goes ends = ends (Ok Outcome.Done) refl gave stop
   onward_cases R t ts (Err failure) (gave, stop) goes ends = ends (Err failure) refl gave stop
 
   module _ (z : Session) where
@@ -143,7 +144,7 @@ module _ (h : Head) (mode : ControlMode) (timeout : Duration) where
         never : None ≡ Some (machine p) → ⊥
         never e = subst IsOpen (sym e) tt
 
-    frame_ran : (f : CanFrame) (t : Instant) → Ran (session_after (take_frame s f t).session cs) p s.head.last (turns (taken_in (mode_entry s) f t (Returned.frame (take_frame s f t).outcome)) (events (take_frame s f t).session cs))
+    frame_ran : (f : CanFrame) (t : Instant) → Ran (session_after (take_frame s f t).session cs) p s.head.last (turns (taken_in (mode_entry s) f t (Returned.frame (take_frame s f t).told)) (events (take_frame s f t).session cs))
     frame_ran f t =
         let s' = (take_frame s f t).session in
         earlier (session_after s' cs) p s.head.last s'.head.last _ (Frame.last_goes_on s f t)
@@ -169,13 +170,13 @@ module _ (h : Head) (mode : ControlMode) (timeout : Duration) where
       abbrev turn : Gave → Turn
       turn g = record { answer = a; sees = mode_entry s; gave = g }
 
-      looked_at : switch_place p ≡ Reply 10 → entry s ≡ mode_entry s
+      looked_at : switch_place p ≡ Some (Reply 10) → entry s ≡ mode_entry s
       looked_at e = ap (λ (x : Option Machine). entry_at s.replies s.acks (run_place x)) o ∙ ap (entry_at s.replies s.acks) e
 
       abbrev took : (g : Gave) → Took p s.head.last (turn g)
       took g = record { head = s.head; entry = entry s; since = le_refl _; fit = fit; accepted = accepted; sees = looked_at }
 
-      turn_wanted : (k : Head) (w : Want) (ts : List Turn) → turn_in a (mode_entry s) (Some w) (Ok (Told.Want (caller_want k w))) ts ≡ turn (record { told = Ok (Told.Want (caller_want k w)); wants = Some w }) ∷ ts
+      turn_wanted : (k : Head) (w : Want Message) (ts : List Turn) → turn_in a (mode_entry s) (Some w) (Ok (Told.Want (caller_want k w))) ts ≡ turn (record { told = Ok (Told.Want (caller_want k w)); wants = Some w }) ∷ ts
       unfolding turn_in
       turn_wanted k w ts = refl
 
@@ -183,21 +184,21 @@ module _ (h : Head) (mode : ControlMode) (timeout : Duration) where
       after_sound x e = subst (λ (r : AfterCall). Sound h r.session) (answer_taken s a (machine p) o fit accepted ∙ ap came_to e) (answer_sound h s sound a)
 
       -- goes on in the phase `q`
-      goes_ran : (q : Switch) → next ≡ Ok (Goes q) → Came cs s p a (came_to (Ok (Goes q)))
+      goes_ran : (q : Switch) → next ≡ Ok (Continue q) → Came cs s p a (came_to (Ok (Continue q)))
       goes_ran q e =
-          let r = came_to (Ok (Goes q)) in
-          let k = after_sound (Ok (Goes q)) e in
+          let r = came_to (Ok (Continue q)) in
+          let k = after_sound (Ok (Continue q)) e in
           let z = session_after r.session cs in
           let ts = turns (mode_entry s) (events r.session cs) in
           let g : Gave = record { told = Ok (Told.Want (caller_want r.session.head (switch_want mode q))); wants = Some (switch_want mode q) } in
           subst (λ (ts : List Turn). Ran z p s.head.last ts) (sym (turn_wanted r.session.head (switch_want mode q) ts))
-          (by_step z p s.head.last (turn g) ts (took g) (Ok (Goes q)) e
+          (by_step z p s.head.last (turn g) ts (took g) (Ok (Continue q)) e
           (ap (λ (w : Wanted). record { told = Ok (Told.Want w); wants = Some (switch_want mode q) }) (same_told r.session.head h (switch_want mode q) k.motor_id k.limits), rest r.session q refl k))
 
       taken_ran : (x : Stepped Switch (Unit {0})) → next ≡ x → Came cs s p a (came_to x)
       unfolding turn_in
-      taken_ran (Ok (Goes q)) e = goes_ran q e
-      taken_ran (Ok (Ends done)) e = by_step (session_after (came_to (Ok (Ends done))).session cs) p s.head.last (turn (gave_result (Ok Outcome.Done))) [] (took _) (Ok (Ends done)) e (refl, refl)
+      taken_ran (Ok (Continue q)) e = goes_ran q e
+      taken_ran (Ok (Break done)) e = by_step (session_after (came_to (Ok (Break done))).session cs) p s.head.last (turn (gave_result (Ok Outcome.Done))) [] (took _) (Ok (Break done)) e (refl, refl)
       taken_ran (Err f) e = by_step (session_after (came_to (Err f)).session cs) p s.head.last (turn (gave_result (Err f))) [] (took _) (Err f) e (refl, refl)
 
     answer_ran : (a : Answer) → Came cs s p a (answer_run s a)

@@ -29,7 +29,7 @@ use Rattle.session_step.specs.declared.Told.TheVariants as Told
 use Rattle.session.proofs.Patching.{left}
 use Rattle.motor_core.specs.declared.error.Refusal.{Refusal}
 use Rattle.run_machine.specs.declared.Machine.{Machine}
-use Rattle.session_answer.specs.declared.AfterCall.{AfterCall}
+use Rattle.session_answer.specs.Answer.{AfterCall}
 use Rattle.session_answer.proofs.Effects.{answer_keeps, answer_last, answer_refused}
 use Rattle.run_arguments.specs.Arguments.{get_start, write_start, fresh_state_start, store_start, mode_start}
 use Rattle.session_begin.specs.Begin.{begin, get_register_u32, get_register_f32, write_register_u32, write_register_f32, request_fresh_state, store_parameters, ensure_control_mode}
@@ -120,7 +120,7 @@ module _ (h : Head) (s : Session) (sound : Sound h s) where
   with_reply None t slot = refl
   with_reply (Some value) t slot = refl
 
-  pub frame_entry : (f : CanFrame) (t : Instant) → mode_entry (take_frame s f t).session ≡ taken_in (mode_entry s) f t (Returned.frame (take_frame s f t).outcome)
+  pub frame_entry : (f : CanFrame) (t : Instant) → mode_entry (take_frame s f t).session ≡ taken_in (mode_entry s) f t (Returned.frame (take_frame s f t).told)
   unfolding take_frame taken_in
   frame_entry f t = Frame.reply_after_frame s f t 10 sound.replies ∙ go (frame_outcome s.head f t)
     where
@@ -178,9 +178,9 @@ refused_leaves s (start b) r =
     by_number (start_run s b).told r
     (λ n e. ap (λ (t : AfterCall). t.session) (is_beginning s b) ∙ start_refused s (starting b) n (sym (ap (λ (t : AfterCall). t.told) (is_beginning s b)) ∙ e))
 refused_leaves s (answer a) r = by_number (answer_run s a).told r (answer_refused s a)
-refused_leaves s (Call.frame f t) r = frame_number (take_frame s f t).outcome r (Frame.turned_back s f t)
-refused_leaves s (frame_lent f t) r = frame_number (take_frame s f t).outcome r (Frame.turned_back s f t)
+refused_leaves s (Call.frame f t) r = frame_number (take_frame s f t).told r (Frame.turned_back s f t)
+refused_leaves s (frame_lent f t) r = frame_number (take_frame s f t).told r (Frame.turned_back s f t)
 refused_leaves s (patch status mos rotor) r = absurd (never r)
   where
-    never : IsRefusal (patched (patch_latest s status mos rotor).patched) → ⊥
+    never : IsRefusal (patched (patch_latest s status mos rotor).told) → ⊥
     never x = x

@@ -19,6 +19,7 @@ use Rattle.run_want.specs.declared.Answer.{Answer}
 use Rattle.run_want.specs.declared.Answer.TheVariants as Answer
 use Rattle.run_want.specs.declared.Failure.{Failure}
 use Rattle.run_want.specs.declared.Want.{Want}
+use Rattle.run_want.specs.declared.message.Message.{Message}
 use Rattle.run_want.specs.declared.Want.TheVariants.{Clock, Send, Sleep}
 use Rattle.run_want.specs.declared.message.Message.TheVariants.{ReadRegister}
 use Rattle.run_wait.specs.Wait.{poll_interval, wait_want}
@@ -38,7 +39,7 @@ use Rattle.session_step.specs.Parts.{caller_want, with_reading}
 use Rattle.session_step.specs.declared.Told.TheVariants as Told
 use Rattle.law_runs.specs.Ends.{wait_opening, Look, Since}
 use Rattle.run_want.specs.Step.{Stepped}
-use Rattle.run_want.specs.declared.step.Step.TheVariants.{Goes, Ends}
+use Rattle.std.specs.declared.ops.ControlFlow.TheVariants.{Continue, Break}
 use Rattle.motor_core.proofs.Turned.{clash}
 use Rattle.law_switch.specs.Claim.{Gave, Turn, gaves, once, count, a_send, on_7ff, wants_send, reads_mode, mode_read, result_of, reading_or, gave_after, reading_after, Looks, Found, a_want, send_to}
 use Rattle.law_switch.proofs.ModeReads.{mode_ask, in_read, ask_of, Saw, Entered, Law, switch_law, EndsDone, ends_done, Quiet, WantsSend, StaysQuiet, sending_quiet, stays_quiet, quiet_sleep}
@@ -53,8 +54,8 @@ clock_read r (Answer.Reading t) f = refl
 clock_read r (Answer.Send result) f = absurd (true≢false (sym f))
 clock_read r Answer.Slept f = absurd (true≢false (sym f))
 
-is_sent : (a : Answer) (m : Want) → fits m a ≡ true → m ≡ Send (ReadRegister 10) → send_outcome a ≡ Ok tt → a ≡ Answer.Send (Ok tt)
-is_sent a m f w s = go a (subst (λ (x : Want). fits x a ≡ true) w f) s
+is_sent : (a : Answer) (m : Want Message) → fits m a ≡ true → m ≡ Send (ReadRegister 10) → send_outcome a ≡ Ok tt → a ≡ Answer.Send (Ok tt)
+is_sent a m f w s = go a (subst (λ (x : Want Message). fits x a ≡ true) w f) s
   where
     never : (x : Failure) → ◌≡◌ {A = Result (Unit {0}) Failure} (Err x) (Ok tt) → ⊥
     never x e = clash (cc)
@@ -131,29 +132,29 @@ module _ (h : Head) (mode : ControlMode) (timeout : Duration) where
   -- what a read that is sent wants is a read of register 10
   pub is_read : (p : Switch) (o : Instant) → mode_ask p ≡ Some (Sending o) → mode_read motor (want_of p) ≡ true
   unfolding wants_send reads_mode
-  is_read p o e = reads_alike h mode p ∙ ap (λ (w : Want). wants_send reads_mode (Some w)) (in_read mode p (Sending o) e).0
+  is_read p o e = reads_alike h mode p ∙ ap (λ (w : Want Message). wants_send reads_mode (Some w)) (in_read mode p (Sending o) e).0
 
   -- and what it wants in its wait is no send
-  no_read : (w : Want) (x : Wait) → w ≡ wait_want x → reads_in (record { told = Ok (Told.Want (caller_want h w)); wants = Some w }) ≡ 0
+  no_read : (w : Want Message) (x : Wait) → w ≡ wait_want x → reads_in (record { told = Ok (Told.Want (caller_want h w)); wants = Some w }) ≡ 0
   unfolding a_want send_to wants_send
-  no_read w (Checking o) e = ap (λ (w : Want). reads_in (record { told = Ok (Told.Want (caller_want h w)); wants = Some w })) e
-  no_read w (Napping o) e = ap (λ (w : Want). reads_in (record { told = Ok (Told.Want (caller_want h w)); wants = Some w })) e
+  no_read w (Checking o) e = ap (λ (w : Want Message). reads_in (record { told = Ok (Told.Want (caller_want h w)); wants = Some w })) e
+  no_read w (Napping o) e = ap (λ (w : Want Message). reads_in (record { told = Ok (Told.Want (caller_want h w)); wants = Some w })) e
 
-  no_send : (w : Want) (x : Wait) → w ≡ wait_want x → sends_in (record { told = Ok (Told.Want (caller_want h w)); wants = Some w }) ≡ 0
+  no_send : (w : Want Message) (x : Wait) → w ≡ wait_want x → sends_in (record { told = Ok (Told.Want (caller_want h w)); wants = Some w }) ≡ 0
   unfolding a_want send_to
-  no_send w (Checking o) e = ap (λ (w : Want). sends_in (record { told = Ok (Told.Want (caller_want h w)); wants = Some w })) e
-  no_send w (Napping o) e = ap (λ (w : Want). sends_in (record { told = Ok (Told.Want (caller_want h w)); wants = Some w })) e
+  no_send w (Checking o) e = ap (λ (w : Want Message). sends_in (record { told = Ok (Told.Want (caller_want h w)); wants = Some w })) e
+  no_send w (Napping o) e = ap (λ (w : Want Message). sends_in (record { told = Ok (Told.Want (caller_want h w)); wants = Some w })) e
 
   -- a read that is sent opened with the last reading
   abbrev pub Opened : Option Instant → Switch → Type 0
   Opened r p = (o : Instant) → mode_ask p ≡ Some (Sending o) → r ≡ Some o
 
-  pub opened_on : (p q : Switch) (r : Option Instant) (e : Entry) (a : Answer) → fits (switch_want mode p) a ≡ true → switch_step mode timeout e p a ≡ Ok (Goes q) → Opened (reading_or a r) q
+  pub opened_on : (p q : Switch) (r : Option Instant) (e : Entry) (a : Answer) → fits (switch_want mode p) a ≡ true → switch_step mode timeout e p a ≡ Ok (Continue q) → Opened (reading_or a r) q
   opened_on p q r e a f goes o is =
       let entered : Entered mode timeout e a (mode_ask p) (Some (Sending o)) = subst (λ (x : Option Ask). Entered mode timeout e a (mode_ask p) x) is (law goes) in
-      clock_read r a (subst (λ (w : Want). fits w a ≡ true) (in_read mode p Opening entered.0).0 f) ∙ ap Some entered.1
+      clock_read r a (subst (λ (w : Want Message). fits w a ≡ true) (in_read mode p Opening entered.0).0 f) ∙ ap Some entered.1
     where
-      law : switch_step mode timeout e p a ≡ Ok (Goes q) → Entered mode timeout e a (mode_ask p) (mode_ask q)
+      law : switch_step mode timeout e p a ≡ Ok (Continue q) → Entered mode timeout e a (mode_ask p) (mode_ask q)
       law goes = subst (λ (x : Stepped Switch (Unit {0})). Law mode timeout e a (mode_ask p) x) goes (switch_law mode timeout e a p)
 
   -- ---- done, so found
@@ -241,10 +242,10 @@ module _ (h : Head) (mode : ControlMode) (timeout : Duration) where
           },
         )
 
-    seek_goes : (q : Switch) → next ≡ Ok (Goes q) → t.gave ≡ want_of q → Sought (reading_or t.answer r) q ts → Sought r p (t ∷ ts)
+    seek_goes : (q : Switch) → next ≡ Ok (Continue q) → t.gave ≡ want_of q → Sought (reading_or t.answer r) q ts → Sought r p (t ∷ ts)
     seek_goes q e gave (inl f) = inl (extend r (want_of p) t ts (subst (λ (g : Gave). Succeeds (reading_or t.answer r) g ts) (sym gave) f))
     seek_goes q e gave (inr (w, is, x)) =
-        let entered : Entered mode timeout k.entry t.answer (mode_ask p) (Some (Waiting w)) = subst (λ (o : Option Ask). Entered mode timeout k.entry t.answer (mode_ask p) o) is (law (Ok (Goes q)) e) in
+        let entered : Entered mode timeout k.entry t.answer (mode_ask p) (Some (Waiting w)) = subst (λ (o : Option Ask). Entered mode timeout k.entry t.answer (mode_ask p) o) is (law (Ok (Continue q)) e) in
         seek_waited q w gave is x entered.0 entered.1 entered.2
 
     -- where it ends
@@ -280,21 +281,21 @@ module _ (h : Head) (mode : ControlMode) (timeout : Duration) where
             whole = refl;
             silent = refl;
             last = λ i. ap reads_in gave i + ap (λ (ts : List Turn). count (mode_read motor) (gaves ts)) stop i;
-            slept = is_slept t.answer poll_interval (subst (λ (w : Want). fits w t.answer ≡ true) (in_read mode p (Waiting (Napping x)) at).0 k.fit);
+            slept = is_slept t.answer poll_interval (subst (λ (w : Want Message). fits w t.answer ≡ true) (in_read mode p (Waiting (Napping x)) at).0 k.fit);
             finds = sym (k.sees (in_read mode p (Waiting (Napping x)) at).1) ∙ holds;
             fresh = subst (λ (i : Instant). i.0 ≤ stamp.0) (sym look) fresh;
           },
         )
 
-    seek_done : next ≡ Ok (Ends tt) → t.gave ≡ gave_result h mode timeout (Ok Outcome.Done) → ts ≡ [] → Sought r p (t ∷ ts)
+    seek_done : next ≡ Ok (Break tt) → t.gave ≡ gave_result h mode timeout (Ok Outcome.Done) → ts ≡ [] → Sought r p (t ∷ ts)
     seek_done e gave stop =
-        let s : Saw mode timeout k.entry t.answer (mode_ask p) = law (Ok (Ends tt)) e in
+        let s : Saw mode timeout k.entry t.answer (mode_ask p) = law (Ok (Break tt)) e in
         seek_look s.read s.opening s.found.stamp gave stop s.is s.look s.found.holds s.found.fresh
 
     onward_sought : (R : Switch → Type 0) → ((q : Switch) → R q → Opened (reading_or t.answer r) q → result_of ts ≡ Some (Ok Outcome.Done) → Sought (reading_or t.answer r) q ts)
         → (x : Stepped Switch (Unit {0})) → next ≡ x → Onward h mode timeout R x t ts → result_of (t ∷ ts) ≡ Some (Ok Outcome.Done) → Sought r p (t ∷ ts)
-    onward_sought R rest (Ok (Goes q)) e (gave, ran) done = seek_goes q e gave (rest q ran (opened_on p q r k.entry t.answer k.fit e) (sym (want_on h mode timeout t ts q gave) ∙ done))
-    onward_sought R rest (Ok (Ends ended)) e (gave, stop) done = seek_done e gave stop
+    onward_sought R rest (Ok (Continue q)) e (gave, ran) done = seek_goes q e gave (rest q ran (opened_on p q r k.entry t.answer k.fit e) (sym (want_on h mode timeout t ts q gave) ∙ done))
+    onward_sought R rest (Ok (Break ended)) e (gave, stop) done = seek_done e gave stop
     onward_sought R rest (Err failure) e (gave, stop) done = absurd (not_done failure (sym (end_of h mode timeout t ts (Err failure) gave) ∙ done))
 
   sought : (z : Session) (ts : List Turn) (p : Switch) (l : Instant) (r : Option Instant) → Ran h mode timeout z p l ts → Opened r p → result_of ts ≡ Some (Ok Outcome.Done) → Sought r p ts
@@ -314,7 +315,7 @@ module _ (h : Head) (mode : ControlMode) (timeout : Duration) where
 
   -- ---- found, so done
 
-  silent_want : (w : Want) → sends_in (record { told = Ok (Told.Want (caller_want h w)); wants = Some w }) ≡ 0 → WantsSend w → ⊥
+  silent_want : (w : Want Message) → sends_in (record { told = Ok (Told.Want (caller_want h w)); wants = Some w }) ≡ 0 → WantsSend w → ⊥
   unfolding a_want send_to
   silent_want Clock e s = s
   silent_want (Send message) e s = omega arith
@@ -347,10 +348,10 @@ module _ (h : Head) (mode : ControlMode) (timeout : Duration) where
 
     -- the look
     module _ (look : Turn) (later : List Turn) (o stamp : Instant) (finds : look.sees ≡ Held (UInt32 number) stamp) (fresh : o.0 ≤ stamp.0) where
-      look_ends : (p : Switch) (l : Instant) → Runs p l (look ∷ later) → switch_place p ≡ Reply 10 → switch_step mode timeout (Held (mode_value mode) stamp) p look.answer ≡ Ok (Ends tt) → result_of (look ∷ later) ≡ Some (Ok Outcome.Done)
+      look_ends : (p : Switch) (l : Instant) → Runs p l (look ∷ later) → switch_place p ≡ Some (Reply 10) → switch_step mode timeout (Held (mode_value mode) stamp) p look.answer ≡ Ok (Break tt) → result_of (look ∷ later) ≡ Some (Ok Outcome.Done)
       unfolding Ran
       look_ends p l (k, on) place done =
-          let e : switch_step mode timeout k.entry p look.answer ≡ Ok (Ends tt) = ap (λ (e : Entry). switch_step mode timeout e p look.answer) (k.sees place ∙ finds) ∙ done in
+          let e : switch_step mode timeout k.entry p look.answer ≡ Ok (Break tt) = ap (λ (e : Entry). switch_step mode timeout e p look.answer) (k.sees place ∙ finds) ∙ done in
           let ended = subst (λ (x : Stepped Switch (Unit {0})). Onward h mode timeout (λ q. Runs q (with_reading k.head look.answer).last later) x look later) e on in
           end_of h mode timeout look later (Ok Outcome.Done) ended.0
 

@@ -29,12 +29,12 @@ use Rattle.switch_stage.specs.declared.Switch.TheVariants.{Starting, Begun}
 use Rattle.session.specs.declared.Head.{Head}
 use Rattle.session_step.specs.Parts.{caller_want}
 use Rattle.session_step.specs.declared.Told.TheVariants as Told
-use Rattle.session_step.specs.declared.Wanted.TheVariants as Wanted
+use Rattle.run_want.specs.declared.Want.TheVariants as Wanted
 use Rattle.law_runs.specs.Trace.{Label, label, counted}
 use Rattle.law_switch.specs.Claim.{Gave, mode_read, mode_write, read_frame, write_frame, shared, once, a_send, a_sleep, on_7ff, wants_send, wants_sleep, any, reads_mode, writes_mode, a_want, send_to, is_sleep}
 
 -- a switch reads registers 10 and 80, writes the mode to 10, and sends no other request
-abbrev Own : ControlMode → Want → Type 0
+abbrev Own : ControlMode → Want Message → Type 0
 Own mode Clock = Unit {0}
 Own mode (Send (ReadRegister rid)) = (rid ≡ 10) ⊎ (rid ≡ 80)
 Own mode (Send (WriteRegister rid bits)) = (rid ≡ 10) × (bits ≡ mode_number mode)
@@ -152,43 +152,43 @@ module _ (motor : ℕ) where
 
 module _ (h : Head) where
   -- of any want
-  pub sends_count : (w : Want) → once (a_send (Ok (Told.Want (caller_want h w)))) ≡ counted 0 each 0 w
+  pub sends_count : (w : Want Message) → once (a_send (Ok (Told.Want (caller_want h w)))) ≡ counted 0 each 0 w
   unfolding a_want send_to
   sends_count Clock = refl
   sends_count (Send message) = refl
   sends_count (Sleep length) = refl
 
-  pub sleeps_count : (w : Want) → once (a_sleep (Ok (Told.Want (caller_want h w)))) ≡ counted 0 (λ command. 0) 1 w
+  pub sleeps_count : (w : Want Message) → once (a_sleep (Ok (Told.Want (caller_want h w)))) ≡ counted 0 (λ command. 0) 1 w
   unfolding a_want is_sleep
   sleeps_count Clock = refl
   sleeps_count (Send message) = refl
   sleeps_count (Sleep length) = refl
 
   -- a want that is a send of such a message, by the weight of its command
-  weight : (of : Message → Bool) (heavy : Label → ℕ) → ((m : Message) → once (of m) ≡ heavy (label m)) → (w : Want) → once (wants_send of (Some w)) ≡ counted 0 heavy 0 w
+  weight : (of : Message → Bool) (heavy : Label → ℕ) → ((m : Message) → once (of m) ≡ heavy (label m)) → (w : Want Message) → once (wants_send of (Some w)) ≡ counted 0 heavy 0 w
   unfolding wants_send
   weight of heavy weighs Clock = refl
   weight of heavy weighs (Send message) = weighs message
   weight of heavy weighs (Sleep length) = refl
 
-  pub sends_weight : (w : Want) → once (wants_send any (Some w)) ≡ counted 0 each 0 w
+  pub sends_weight : (w : Want Message) → once (wants_send any (Some w)) ≡ counted 0 each 0 w
   unfolding any
   sends_weight = weight any each (λ m. refl)
 
-  pub sleeps_weight : (w : Want) → once (wants_sleep (Some w)) ≡ counted 0 (λ command. 0) 1 w
+  pub sleeps_weight : (w : Want Message) → once (wants_sleep (Some w)) ≡ counted 0 (λ command. 0) 1 w
   unfolding wants_sleep
   sleeps_weight Clock = refl
   sleeps_weight (Send message) = refl
   sleeps_weight (Sleep length) = refl
 
   -- what a want gives
-  abbrev gives : Want → Gave
+  abbrev gives : Want Message → Gave
   gives w = record { told = Ok (Told.Want (caller_want h w)); wants = Some w }
 
   abbrev motor : ℕ
   motor = h.motor_id
 
-  reads_own : (mode : ControlMode) (w : Want) → Own mode w → mode_read motor (gives w) ≡ wants_send reads_mode (Some w)
+  reads_own : (mode : ControlMode) (w : Want Message) → Own mode w → mode_read motor (gives w) ≡ wants_send reads_mode (Some w)
   unfolding a_want send_to wants_send reads_mode any
   reads_own mode Clock o = refl
   reads_own mode (Send (ReadRegister rid)) (inl e) =
@@ -206,7 +206,7 @@ module _ (h : Head) where
   reads_own mode (Send (Setpoint m position)) o = hold_neither motor (read_frame motor) m (hold_data h.limits m position.0)
   reads_own mode (Sleep length) o = refl
 
-  writes_own : (mode : ControlMode) (w : Want) → Own mode w → mode_write motor (gives w) ≡ wants_send writes_mode (Some w)
+  writes_own : (mode : ControlMode) (w : Want Message) → Own mode w → mode_write motor (gives w) ≡ wants_send writes_mode (Some w)
   unfolding a_want send_to wants_send writes_mode
   writes_own mode Clock o = refl
   writes_own mode (Send (ReadRegister rid)) o = left_false (write_frame motor (register_read_data motor rid)) _ (read_no_write motor rid)
@@ -226,29 +226,20 @@ module _ (h : Head) where
   pub writes_alike : (mode : ControlMode) (p : Switch) → mode_write motor (gives (switch_want mode p)) ≡ wants_send writes_mode (Some (switch_want mode p))
   writes_alike mode p = writes_own mode (switch_want mode p) (own mode p)
 
-  pub reads_weight : (w : Want) → once (wants_send reads_mode (Some w)) ≡ counted 0 mode_reads 0 w
-  unfolding reads_mode
-  reads_weight = weight reads_mode mode_reads weighs
-    where
-      weighs : (m : Message) → once (reads_mode m) ≡ mode_reads (label m)
-      weighs (ReadRegister rid) = refl
-      weighs (WriteRegister rid bits) = refl
-      weighs RequestFeedback = refl
-      weighs Disable = refl
-      weighs StoreParams = refl
-      weighs (Setpoint m position) = refl
+  of_label : (m : Message) → (once (reads_mode m) ≡ mode_reads (label m)) × (once (writes_mode m) ≡ mode_writes (label m))
+  unfolding reads_mode writes_mode
+  of_label (ReadRegister rid) = (refl, refl)
+  of_label (WriteRegister rid bits) = (refl, refl)
+  of_label RequestFeedback = (refl, refl)
+  of_label Disable = (refl, refl)
+  of_label StoreParams = (refl, refl)
+  of_label (Setpoint m position) = (refl, refl)
 
-  pub writes_weight : (w : Want) → once (wants_send writes_mode (Some w)) ≡ counted 0 mode_writes 0 w
-  unfolding writes_mode
-  writes_weight = weight writes_mode mode_writes weighs
-    where
-      weighs : (m : Message) → once (writes_mode m) ≡ mode_writes (label m)
-      weighs (ReadRegister rid) = refl
-      weighs (WriteRegister rid bits) = refl
-      weighs RequestFeedback = refl
-      weighs Disable = refl
-      weighs StoreParams = refl
-      weighs (Setpoint m position) = refl
+  pub reads_weight : (w : Want Message) → once (wants_send reads_mode (Some w)) ≡ counted 0 mode_reads 0 w
+  reads_weight = weight reads_mode mode_reads (λ m. (of_label m).0)
+
+  pub writes_weight : (w : Want Message) → once (wants_send writes_mode (Some w)) ≡ counted 0 mode_writes 0 w
+  writes_weight = weight writes_mode mode_writes (λ m. (of_label m).1)
 
   pub reads_count : (mode : ControlMode) (p : Switch) → once (mode_read motor (gives (switch_want mode p))) ≡ counted 0 mode_reads 0 (switch_want mode p)
   reads_count mode p = ap once (reads_alike mode p) ∙ reads_weight (switch_want mode p)

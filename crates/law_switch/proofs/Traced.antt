@@ -9,6 +9,7 @@ use Rattle.time.specs.declared.Instant.{Instant}
 use Rattle.time.specs.declared.Duration.{Duration}
 use Rattle.protocol_hold.specs.declared.ControlMode.{ControlMode}
 use Rattle.run_want.specs.declared.Want.{Want}
+use Rattle.run_want.specs.declared.message.Message.{Message}
 use Rattle.run_want.specs.declared.Want.TheVariants.{Clock, Send, Sleep}
 use Rattle.switch_stage.specs.Stage.{switch_want}
 use Rattle.switch_step.specs.Switch.{switch_step}
@@ -19,7 +20,7 @@ use Rattle.session.specs.declared.Head.{Head}
 use Rattle.session.specs.declared.Session.{Session}
 use Rattle.session_step.specs.Parts.{caller_want, with_reading}
 use Rattle.run_want.specs.Step.{Stepped}
-use Rattle.run_want.specs.declared.step.Step.TheVariants.{Goes}
+use Rattle.std.specs.declared.ops.ControlFlow.TheVariants.{Continue}
 use Rattle.law_runs.specs.Clock.{known_after, AllFine, Clock as Known, moving, Moving}
 use Rattle.law_runs.specs.Systems.{phase_of, running}
 use Rattle.law_runs.specs.Trace.{Given, wants_from, after}
@@ -37,7 +38,7 @@ none≢some {A} e = subst IsNone e tt
     IsNone (Some x) = ⊥
 
 -- a want is no result
-no_result : (h : Head) (w : Want) (later : Option RunResult) → result_in (Ok (Told.Want (caller_want h w))) later ≡ later
+no_result : (h : Head) (w : Want Message) (later : Option RunResult) → result_in (Ok (Told.Want (caller_want h w))) later ≡ later
 unfolding result_in
 no_result h w later = refl
 
@@ -60,7 +61,7 @@ module _ (h : Head) (mode : ControlMode) (timeout : Duration) where
   pub record Traced (p : Switch) (l : Instant) (ts : List Turn) : Type 0 where
     pub gs : List Given
     pub as_many : length gs ≡ length ts
-    pub counts : (f : Gave → Bool) (w : Want → ℕ) → ((q : Switch) → once (f (want_of q)) ≡ w (switch_want mode q)) → ((r : RunResult) → f (gave_result h mode timeout r) ≡ false)
+    pub counts : (f : Gave → Bool) (w : Want Message → ℕ) → ((q : Switch) → once (f (want_of q)) ≡ w (switch_want mode q)) → ((r : RunResult) → f (gave_result h mode timeout r) ≡ false)
         → count f (want_of p ∷ gaves ts) ≡ Trace.total w (wants_from running gs (at p))
     pub ended : after running gs (at p) ≡ None → (r : RunResult) × (result_of ts ≡ Some r)
     pub moves : (k : Known) → Behind k.last l → Pending k (next_reading ts) → AllMove k.last (want_of p).told ts → Moving running gs k (at p)
@@ -90,7 +91,7 @@ module _ (h : Head) (mode : ControlMode) (timeout : Duration) where
       unfolding next_reading AllMove
       fine_on k' b pending m = goes_on h k' l k.head k.since b (next_reading ts) (switch_want mode p) t.answer k.fit k.accepted pending m.0
 
-      goes : (q : Switch) → next ≡ Ok (Goes q) → t.gave ≡ want_of q → Traced q (with_reading k.head t.answer).last ts → Traced p l (t ∷ ts)
+      goes : (q : Switch) → next ≡ Ok (Continue q) → t.gave ≡ want_of q → Traced q (with_reading k.head t.answer).last ts → Traced p l (t ∷ ts)
       unfolding gaves count Trace.total wants_from after AllFine result_of AllMove
       goes q e gave rest = record {
         gs = given ∷ rest.gs;

@@ -1,4 +1,4 @@
--- What holds of every mode switch in every list of calls on one session. It goes from the calls to the claim, and speaks of the calls and of what they returned; the run's definition is asked only for what it wants. Definitions only.
+-- Demand 3: what holds of every mode switch in every list of calls on one session. It goes along the last paragraph of document 01's 'The runs', from the calls to the claim, and speaks of the calls and of what they returned; the run's definition is asked only for what it wants. Definitions only.
 use Rattle.std.specs.Prelude.{ℕ, ◌+◌, ◌/◌, ◌^◌, ◌≤◌, ◌≡◌, Bool, true, false, not, ◌&&◌, ◌||◌, cond, ◌↔◌, List, [], ◌∷◌, ◌++◌, eqb, length, None, Option, Some, Result, Ok, Err}
 use Rattle.float.specs.declared.F32Bits.{F32Bits}
 use Rattle.motor_core.specs.declared.bus.CanFrame.{CanFrame}
@@ -28,16 +28,16 @@ use Rattle.run_machine.specs.declared.Machine.{Machine}
 use Rattle.run_machine.specs.declared.Outcome.TheVariants.{Done}
 use Rattle.session.specs.Session.{patch as patch_latest}
 use Rattle.session.specs.Start.{from_limits, from_model}
-use Rattle.session.specs.declared.AfterPatch.{AfterPatch}
+use Rattle.session.specs.Session.{AfterPatch}
 use Rattle.session.specs.declared.Session.{Session}
 use Rattle.session_frame.specs.Frame.{FrameOutcome, take_frame}
-use Rattle.session_frame.specs.declared.AfterFrame.{AfterFrame}
+use Rattle.session_frame.specs.Frame.{AfterFrame}
 use Rattle.session_answer.specs.Answer.{answer_run}
 use Rattle.session_step.specs.declared.Told.{Told}
 use Rattle.session_step.specs.declared.Told.TheVariants as Told
-use Rattle.session_step.specs.declared.Wanted.{Wanted}
-use Rattle.session_step.specs.declared.Wanted.TheVariants as Wanted
-use Rattle.session_answer.specs.declared.AfterCall.{AfterCall}
+use Rattle.session_step.specs.Parts.{Wanted}
+use Rattle.run_want.specs.declared.Want.TheVariants as Wanted
+use Rattle.session_answer.specs.Answer.{AfterCall}
 use Rattle.session_begin.specs.Begin.{get_register_u32, get_register_f32, write_register_u32, write_register_f32, request_fresh_state, store_parameters, ensure_control_mode}
 
 -- ---- the list: calls on one session
@@ -81,10 +81,10 @@ abbrev pub of_run : AfterCall → After
 of_run t = record { session = t.session; returned = told t.told }
 
 abbrev pub of_frame : AfterFrame → After
-of_frame t = record { session = t.session; returned = Returned.frame t.outcome }
+of_frame t = record { session = t.session; returned = Returned.frame t.told }
 
 abbrev pub of_patch : AfterPatch → After
-of_patch p = record { session = p.session; returned = patched p.patched }
+of_patch p = record { session = p.session; returned = patched p.told }
 
 -- each call by the definition that its function is proved equal to; where the session is lent, its last value is the next one
 unfoldable pub start_run : Session → Start → AfterCall
@@ -104,7 +104,7 @@ step s (frame_lent f reading) = of_frame (take_frame s f reading)
 step s (patch status mos rotor) = of_patch (patch_latest s status mos rotor)
 
 -- what the run's definition wants
-abbrev pub open_want : Option Machine → Option Want
+abbrev pub open_want : Option Machine → Option (Want Message)
 open_want None = None
 open_want (Some machine) = Some (machine_want machine)
 
@@ -112,7 +112,7 @@ open_want (Some machine) = Some (machine_want machine)
 pub record Event : Type 0 where
   pub call : Call
   pub returned : Returned
-  pub wants : Option Want
+  pub wants : Option (Want Message)
 
 abbrev pub event : Session → Call → Event
 event s c = record { call = c; returned = (step s c).returned; wants = open_want (step s c).session.run }
@@ -165,7 +165,7 @@ last_reply e (v ∷ vs) = last_reply (reply_with e v.call v.returned) vs
 -- what such a call gives: what it returned, and what the run's definition wants then
 pub record Gave : Type 0 where
   pub told : Answered
-  pub wants : Option Want
+  pub wants : Option (Want Message)
 
 -- an accepted answer, and the last reply of register 10 taken before its call
 pub record Turn : Type 0 where
@@ -173,21 +173,21 @@ pub record Turn : Type 0 where
   pub sees : Entry
   pub gave : Gave
 
-abbrev pub turn : Answer → Entry → Option Want → Answered → Turn
+abbrev pub turn : Answer → Entry → Option (Want Message) → Answered → Turn
 turn a e w t = record { answer = a; sees = e; gave = record { told = t; wants = w } }
 
 -- a refused answer is no turn, and the result is the last
-unfoldable pub turn_in : Answer → Entry → Option Want → Answered → List Turn → List Turn
+unfoldable pub turn_in : Answer → Entry → Option (Want Message) → Answered → List Turn → List Turn
 turn_in a e w (Ok (Told.Want want)) ts = turn a e w (Ok (Told.Want want)) ∷ ts
 turn_in a e w (Ok (Told.Result r)) ts = turn a e w (Ok (Told.Result r)) ∷ []
 turn_in a e w (Err refusal) ts = ts
 
-unfoldable pub turn_of : Answer → Entry → Option Want → Returned → List Turn → List Turn
+unfoldable pub turn_of : Answer → Entry → Option (Want Message) → Returned → List Turn → List Turn
 turn_of a e w (told t) ts = turn_in a e w t ts
 turn_of a e w (Returned.frame outcome) ts = ts
 turn_of a e w (patched done) ts = ts
 
-unfoldable pub add_turn : Entry → Call → Returned → Option Want → List Turn → List Turn
+unfoldable pub add_turn : Entry → Call → Returned → Option (Want Message) → List Turn → List Turn
 add_turn e (start b) returned w ts = ts
 add_turn e (answer a) returned w ts = turn_of a e w returned ts
 add_turn e (Call.frame f reading) returned w ts = ts
@@ -269,13 +269,13 @@ unfoldable pub shared : ℕ → Bool
 shared motor = eqb motor 0x7ff || (eqb motor 0x6ff || (eqb motor 0x5ff || eqb motor 0x4ff))
 
 -- by what the definition wants: a send of such a message; a sleep
-unfoldable pub wants_send : (Message → Bool) → Option Want → Bool
+unfoldable pub wants_send : (Message → Bool) → Option (Want Message) → Bool
 wants_send of None = false
 wants_send of (Some Clock) = false
 wants_send of (Some (Send message)) = of message
 wants_send of (Some (Sleep length)) = false
 
-unfoldable pub wants_sleep : Option Want → Bool
+unfoldable pub wants_sleep : Option (Want Message) → Bool
 wants_sleep None = false
 wants_sleep (Some Clock) = false
 wants_sleep (Some (Send message)) = false

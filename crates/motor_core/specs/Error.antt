@@ -1,4 +1,4 @@
--- The numbers of the refusals. Definitions only.
+-- The numbers of the refusals, document 01's 'Turned back'. Definitions only.
 use Rattle.std.specs.Prelude.{ℕ}
 use Rattle.motor_core.specs.declared.error.Refusal.{Refusal}
 use Rattle.motor_core.specs.declared.error.Refusal.TheVariants.{Limit, MotorId, Reading, Register, ReadOnly, ValueType, Timeout, RunOpen, NotWanted, Mode, Query, Model}

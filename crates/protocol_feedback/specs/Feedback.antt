@@ -10,7 +10,7 @@ use Rattle.protocol_codes.specs.Codes.{uint_to_float}
 use Rattle.protocol_frame.specs.Layout.{d}
 use Rattle.protocol_feedback.specs.declared.SensorFeedback.{SensorFeedback}
 
--- d1 to d5 are three codes of 16, 12 and 12 bits
+-- 'The feedback on the screen', feedback: d1 to d5 are three codes of 16, 12 and 12 bits
 abbrev pub position_code : List ℕ → ℕ
 position_code bytes = d bytes 1 * 256 + d bytes 2
 

@@ -8,6 +8,6 @@ use Rattle.protocol_frame.specs.declared.Command.{Command}
 abbrev pub command : ℕ → ℕ → Command
 command arbitration bits = record { arbitration_id = arbitration; «data» = bits }
 
--- refused where the motor id is not accepted
+-- 'The command bytes', last rule: refused with 2 where the motor id is not accepted
 unfoldable pub frame_for : ℕ → ℕ → ℕ → Result Command Refusal
 frame_for motor arbitration bits = cond (motor_id_accepted motor) (Ok (command arbitration bits)) (Err MotorId)

@@ -1,4 +1,4 @@
--- The control modes and the setpoint that stands still in each. Definitions only.
+-- The control modes and the setpoint that stands still in each: document 01's 'The command bytes'. Definitions only.
 use Rattle.std.specs.Prelude.{ℕ, cond, eqb, Float, Result, Ok, Err}
 use Rattle.std.specs.Float.{binary32}
 use Rattle.std.specs.Float.Ieee.{of_bits}
@@ -11,7 +11,7 @@ use Rattle.protocol_setpoint.specs.Setpoint.{pos_vel_id, vel_id, force_pos_id, m
 use Rattle.protocol_hold.specs.declared.ControlMode.{ControlMode}
 use Rattle.protocol_hold.specs.declared.ControlMode.TheVariants.{Mit, PosVel, Vel, ForcePos}
 
--- modes have the numbers 1 to 4
+-- 'Turned back', 10: modes have the numbers 1 to 4
 abbrev pub control_mode : ℕ → Result ControlMode Refusal
 control_mode n = cond (eqb n 1) (Ok Mit) (cond (eqb n 2) (Ok PosVel) (cond (eqb n 3) (Ok Vel) (cond (eqb n 4) (Ok ForcePos) (Err Mode))))
 

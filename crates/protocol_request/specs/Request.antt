@@ -7,7 +7,7 @@ use Rattle.protocol_frame.specs.declared.Command.{Command}
 
 -- ---- the eight data bytes
 
--- the motor id, lowest byte first, and what follows it
+-- 'The command bytes', requests: the motor id, lowest byte first, and what follows it
 unfoldable pub addressed : ℕ → List Field → ℕ
 unfolding packed_onto little_endian
 addressed motor rest = packed (little_endian 2 motor ++ rest)

@@ -16,7 +16,7 @@ use Rattle.protocol_setpoint.specs.declared.MitSetpoint.{MitSetpoint}
 
 -- ---- the eight data bytes
 
--- MIT: five codes from the high bit down, 16 bits of position and 12 each of velocity, kp, kd and torque
+-- 'The command bytes', MIT: five codes from the high bit down, 16 bits of position and 12 each of velocity, kp, kd and torque
 abbrev pub mit_fields : ℕ → ℕ → ℕ → ℕ → ℕ → ℕ
 mit_fields pos vel kp kd torq = packed (field 16 pos ∷ field 12 vel ∷ field 12 kp ∷ field 12 kd ∷ field 12 torq ∷ [])
 

@@ -1,4 +1,4 @@
--- The list of registers. Definitions only.
+-- The list of registers, as document 01 has it. Definitions only.
 use Rattle.std.specs.Prelude.{ℕ, zero, suc, ◌-◌, Bool, false, ◌||◌, cond, List, [], ◌∷◌, ◌++◌, eqb, Option, Some, None}
 use Rattle.registers.specs.declared.RegisterAccess.{RegisterAccess}
 use Rattle.registers.specs.declared.RegisterAccess.TheVariants.{ReadOnly, ReadWrite}
@@ -21,7 +21,7 @@ unfoldable pub elem : ℕ → List ℕ → Bool
 elem x [] = false
 elem x (y ∷ ys) = eqb x y || elem x ys
 
--- the 53 registers
+-- 'The register answers': the 53 registers
 unfoldable pub registers : List ℕ
 unfolding ◌to◌
 registers = (0 to 36) ++ (50 to 56) ++ (59 to 65) ++ (80 to 81)

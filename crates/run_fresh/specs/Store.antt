@@ -1,4 +1,4 @@
--- Storing. Definitions only.
+-- Storing: document 01's 'The runs', its last rule. Definitions only.
 use Rattle.std.specs.Prelude.{cond, eqb, Option, Some, None, Ok, Err}
 use Rattle.motor_core.specs.Outcome.{and_then}
 use Rattle.time.specs.Time.{millis}
@@ -8,9 +8,10 @@ use Rattle.state_feedback.specs.declared.MotorFeedbackState.{MotorFeedbackState}
 use Rattle.run_want.specs.Want.{send_outcome}
 use Rattle.run_want.specs.declared.Answer.{Answer}
 use Rattle.run_want.specs.Step.{Stepped, goes, ends}
-use Rattle.run_want.specs.declared.step.Step.TheVariants.{Goes, Ends}
+use Rattle.std.specs.declared.ops.ControlFlow.TheVariants.{Continue, Break}
 use Rattle.run_want.specs.declared.Want.{Want}
 use Rattle.run_want.specs.declared.Want.TheVariants.{Send, Sleep}
+use Rattle.run_want.specs.declared.message.Message.{Message}
 use Rattle.run_want.specs.declared.message.Message.TheVariants.{Disable, StoreParams}
 use Rattle.run_fresh.specs.State.{state_want, state_step}
 use Rattle.run_wait.specs.declared.ask.Ask.{Ask}
@@ -21,7 +22,7 @@ abbrev pub state_timeout : Duration
 state_timeout = millis 50
 
 -- a disable settles for 20 ms, storing for 30
-abbrev pub store_want : Store → Want
+abbrev pub store_want : Store → Want Message
 store_want (Asking ask) = state_want ask
 store_want Disabling = Send Disable
 store_want Disabled = Sleep (millis 20)
@@ -34,9 +35,9 @@ by_status state = cond (eqb state.status_code 0) Storing Disabling
 
 -- no state, or a request that failed, is followed by a disable
 abbrev pub store_asked : Stepped Ask (Option MotorFeedbackState) → Store
-store_asked (Ok (Goes ask)) = Asking ask
-store_asked (Ok (Ends (Some state))) = by_status state
-store_asked (Ok (Ends None)) = Disabling
+store_asked (Ok (Continue ask)) = Asking ask
+store_asked (Ok (Break (Some state))) = by_status state
+store_asked (Ok (Break None)) = Disabling
 store_asked (Err failure) = Disabling
 
 -- `store_parameters`, looking at the latest record: a disable or a store frame that is not sent ends it

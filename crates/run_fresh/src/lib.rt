@@ -7,31 +7,19 @@ pub mod store;
 ghost use Rattle.std.specs.Prelude.{◌≡◌};
 ghost use Rattle.run_fresh.specs.State as Spec;
 
-use run_wait::ask::{Ask, ask_step, ask_want};
+use run_wait::Waited;
+use run_wait::ask::{Ask, ask_step, ask_want, looked};
 use run_wait::look::fresh_record;
-use run_wait::{Wait, Waited};
 use run_want::message::Message;
-use run_want::step::{Step, Stepped};
-use run_want::{Answer, Want};
+use run_want::{Answer, Stepped, Want};
 use state_feedback::{FeedbackSnapshot, MotorFeedbackState};
-use time::{Duration, Instant};
+use std::ops::ControlFlow;
+use time::Duration;
 
-pub fn state_want(ask: Ask) -> Want
+pub fn state_want(ask: Ask) -> Want<Message>
     ensures { result ≡ Spec.state_want ask }
 {
     ask_want(Message::RequestFeedback, ask)
-}
-
-fn state_look(
-    opening: Instant,
-    latest: Option<FeedbackSnapshot>,
-) -> Step<Ask, Option<MotorFeedbackState>>
-    ensures { result ≡ Spec.state_look opening latest }
-{
-    match fresh_record(opening, latest) {
-        None => Step::Goes(Ask::Waiting(Wait::Checking(opening))),
-        Some(snapshot) => Step::Ends(Some(snapshot.state)),
-    }
 }
 
 // Past the deadline there is no state, which is no failure.
@@ -44,8 +32,11 @@ pub fn state_step(
     ensures { result ≡ Spec.state_step timeout latest ask answer }
 {
     match ask_step(timeout, ask, answer)? {
-        Waited::Goes(next) => Ok(Step::Goes(next)),
-        Waited::Looks(opening) => Ok(state_look(opening, latest)),
-        Waited::Late => Ok(Step::Ends(None)),
+        Waited::Goes(next) => Ok(ControlFlow::Continue(next)),
+        Waited::Looks(opening) => Ok(looked(
+            opening,
+            fresh_record(opening, latest).map(|snapshot| Some(snapshot.state)),
+        )),
+        Waited::Late => Ok(ControlFlow::Break(None)),
     }
 }

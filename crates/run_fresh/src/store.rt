@@ -5,9 +5,9 @@ ghost use Rattle.run_fresh.specs.Store as Spec;
 use crate::{state_step, state_want};
 use run_wait::ask::Ask;
 use run_want::message::Message;
-use run_want::step::{Step, Stepped};
-use run_want::{Answer, Want, send_outcome};
+use run_want::{Answer, Stepped, Want, send_outcome};
 use state_feedback::{FeedbackSnapshot, MotorFeedbackState};
+use std::ops::ControlFlow;
 use time::Duration;
 
 // In nanoseconds.
@@ -27,7 +27,7 @@ pub enum Store {
     Stored,
 }
 
-pub fn store_want(store: Store) -> Want
+pub fn store_want(store: Store) -> Want<Message>
     ensures { result ≡ Spec.store_want store }
 {
     match store {
@@ -54,9 +54,9 @@ fn store_asked(next: Stepped<Ask, Option<MotorFeedbackState>>) -> Store
     ensures { result ≡ Spec.store_asked next }
 {
     match next {
-        Ok(Step::Goes(ask)) => Store::Asking(ask),
-        Ok(Step::Ends(Some(state))) => by_status(state),
-        Ok(Step::Ends(None)) => Store::Disabling,
+        Ok(ControlFlow::Continue(ask)) => Store::Asking(ask),
+        Ok(ControlFlow::Break(Some(state))) => by_status(state),
+        Ok(ControlFlow::Break(None)) => Store::Disabling,
         Err(_) => Store::Disabling,
     }
 }
@@ -69,7 +69,7 @@ pub fn store_step(
     ensures { result ≡ Spec.store_step latest store answer }
 {
     match store {
-        Store::Asking(ask) => Ok(Step::Goes(store_asked(state_step(
+        Store::Asking(ask) => Ok(ControlFlow::Continue(store_asked(state_step(
             STORE_PARAMS_STATE_TIMEOUT,
             latest,
             ask,
@@ -77,13 +77,13 @@ pub fn store_step(
         )))),
         Store::Disabling => {
             send_outcome(answer)?;
-            Ok(Step::Goes(Store::Disabled))
+            Ok(ControlFlow::Continue(Store::Disabled))
         }
-        Store::Disabled => Ok(Step::Goes(Store::Storing)),
+        Store::Disabled => Ok(ControlFlow::Continue(Store::Storing)),
         Store::Storing => {
             send_outcome(answer)?;
-            Ok(Step::Goes(Store::Stored))
+            Ok(ControlFlow::Continue(Store::Stored))
         }
-        Store::Stored => Ok(Step::Ends(())),
+        Store::Stored => Ok(ControlFlow::Break(())),
     }
 }

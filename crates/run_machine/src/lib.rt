@@ -11,6 +11,7 @@ use run_fresh::state_want;
 use run_fresh::store::{Store, store_want};
 use run_read::read_want;
 use run_wait::ask::Ask;
+use run_want::message::Message;
 use run_want::{Failure, Want};
 use run_write::{Write, write_want};
 use state_cache::Place;
@@ -38,7 +39,7 @@ pub enum Outcome {
 
 pub type RunResult = Result<Outcome, Failure>;
 
-pub fn machine_want(machine: Machine) -> Want
+pub fn machine_want(machine: Machine) -> Want<Message>
     ensures { result ≡ Spec.machine_want machine }
 {
     match machine {
@@ -50,14 +51,14 @@ pub fn machine_want(machine: Machine) -> Want
     }
 }
 
-pub fn machine_place(machine: Machine) -> Place
+pub fn machine_place(machine: Machine) -> Option<Place>
     ensures { result ≡ Spec.machine_place machine }
 {
     match machine {
-        Machine::GetRegister(_, rid, _, _) => Place::Reply(rid),
-        Machine::WriteRegister(rid, _, _) => Place::Ack(rid),
-        Machine::RequestFreshState(_, _) => Place::Nowhere,
-        Machine::StoreParameters(_) => Place::Nowhere,
+        Machine::GetRegister(_, rid, _, _) => Some(Place::Reply(rid)),
+        Machine::WriteRegister(rid, _, _) => Some(Place::Ack(rid)),
+        Machine::RequestFreshState(_, _) => None,
+        Machine::StoreParameters(_) => None,
         Machine::EnsureControlMode(_, _, switch) => switch_place(switch),
     }
 }

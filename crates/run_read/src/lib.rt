@@ -6,28 +6,19 @@ ghost use Rattle.std.specs.Prelude.{◌≡◌};
 ghost use Rattle.run_read.specs.Read as Spec;
 
 use registers::{RegisterDataType, RegisterValue, is_of_type};
-use run_wait::ask::{Ask, ask_step, ask_want};
+use run_wait::Waited;
+use run_wait::ask::{Ask, ask_step, ask_want, looked};
 use run_wait::look::fresh_entry;
-use run_wait::{Wait, Waited};
 use run_want::message::Message;
-use run_want::step::{Step, Stepped};
-use run_want::{Answer, Failure, Want};
+use run_want::{Answer, Failure, Stepped, Want};
 use state_cache::Entry;
-use time::{Duration, Instant};
+use std::ops::ControlFlow;
+use time::Duration;
 
-pub fn read_want(rid: u8, ask: Ask) -> Want
+pub fn read_want(rid: u8, ask: Ask) -> Want<Message>
     ensures { result ≡ Spec.read_want rid ask }
 {
     ask_want(Message::ReadRegister(rid), ask)
-}
-
-fn read_look(opening: Instant, entry: Entry) -> Step<Ask, RegisterValue>
-    ensures { result ≡ Spec.read_look opening entry }
-{
-    match fresh_entry(opening, entry) {
-        Entry::Empty => Step::Goes(Ask::Waiting(Wait::Checking(opening))),
-        Entry::Held(value, _) => Step::Ends(value),
-    }
 }
 
 // `entry` is what the cache holds of the register's replies.
@@ -40,8 +31,8 @@ fn read_step(
     ensures { result ≡ Spec.read_step timeout entry ask answer }
 {
     match ask_step(timeout, ask, answer)? {
-        Waited::Goes(next) => Ok(Step::Goes(next)),
-        Waited::Looks(opening) => Ok(read_look(opening, entry)),
+        Waited::Goes(next) => Ok(ControlFlow::Continue(next)),
+        Waited::Looks(opening) => Ok(looked(opening, fresh_entry(opening, entry).value())),
         Waited::Late => Err(Failure::Timeout),
     }
 }
@@ -66,7 +57,7 @@ pub fn get_step(
     ensures { result ≡ Spec.get_step data_type timeout entry ask answer }
 {
     match read_step(timeout, entry, ask, answer)? {
-        Step::Goes(next) => Ok(Step::Goes(next)),
-        Step::Ends(value) => Ok(Step::Ends(typed(data_type, value)?)),
+        ControlFlow::Continue(next) => Ok(ControlFlow::Continue(next)),
+        ControlFlow::Break(value) => Ok(ControlFlow::Break(typed(data_type, value)?)),
     }
 }

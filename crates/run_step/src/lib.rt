@@ -9,8 +9,7 @@ use run_fresh::state_step;
 use run_fresh::store::store_step;
 use run_machine::{Machine, Outcome};
 use run_read::get_step;
-use run_want::Answer;
-use run_want::step::Stepped;
+use run_want::{Answer, Stepped};
 use run_write::write_step;
 use state_cache::Entry;
 use state_feedback::FeedbackSnapshot;
@@ -28,35 +27,38 @@ pub fn machine_step(
     match machine {
         Machine::GetRegister(data_type, rid, timeout, ask) => {
             let step = get_step(data_type, timeout, entry, ask, answer)?;
-            Ok(step.map(
-                |ask| Machine::GetRegister(data_type, rid, timeout, ask),
-                Outcome::Value,
-            ))
+            Ok(
+                step.map_continue(|ask| Machine::GetRegister(data_type, rid, timeout, ask))
+                    .map_break(Outcome::Value),
+            )
         }
         Machine::WriteRegister(rid, value, write) => {
             let step = write_step(value, entry, write, answer)?;
-            Ok(step.map(
-                |write| Machine::WriteRegister(rid, value, write),
-                |()| Outcome::Done,
-            ))
+            Ok(
+                step.map_continue(|write| Machine::WriteRegister(rid, value, write))
+                    .map_break(|()| Outcome::Done),
+            )
         }
         Machine::RequestFreshState(timeout, ask) => {
             let step = state_step(timeout, latest, ask, answer)?;
-            Ok(step.map(
-                |ask| Machine::RequestFreshState(timeout, ask),
-                Outcome::State,
-            ))
+            Ok(
+                step.map_continue(|ask| Machine::RequestFreshState(timeout, ask))
+                    .map_break(Outcome::State),
+            )
         }
         Machine::StoreParameters(store) => {
             let step = store_step(latest, store, answer)?;
-            Ok(step.map(Machine::StoreParameters, |()| Outcome::Done))
+            Ok(
+                step.map_continue(Machine::StoreParameters)
+                    .map_break(|()| Outcome::Done),
+            )
         }
         Machine::EnsureControlMode(mode, timeout, switch) => {
             let step = switch_step(mode, timeout, entry, switch, answer)?;
-            Ok(step.map(
-                |switch| Machine::EnsureControlMode(mode, timeout, switch),
-                |()| Outcome::Done,
-            ))
+            Ok(
+                step.map_continue(|switch| Machine::EnsureControlMode(mode, timeout, switch))
+                    .map_break(|()| Outcome::Done),
+            )
         }
     }
 }

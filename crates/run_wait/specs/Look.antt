@@ -1,4 +1,4 @@
--- Looks: what is stamped no earlier than the opening counts. Definitions only.
+-- Looks: document 01's 'The runs', what is stamped no earlier than the opening counts. Definitions only.
 use Rattle.std.specs.Prelude.{cond, leb, Option, Some, None}
 use Rattle.time.specs.declared.Instant.{Instant}
 use Rattle.state_feedback.specs.declared.FeedbackSnapshot.{FeedbackSnapshot}

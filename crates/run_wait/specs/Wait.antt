@@ -1,4 +1,4 @@
--- The wait: look, then clock, then 2 ms of sleep. Definitions only.
+-- The wait: document 01's 'The runs', look, then clock, then 2 ms of sleep. Definitions only.
 use Rattle.std.specs.Prelude.{◌+◌, Bool, cond, leb}
 use Rattle.time.specs.Time.{millis}
 use Rattle.time.specs.declared.Instant.{Instant}
@@ -7,6 +7,7 @@ use Rattle.run_want.specs.Want.{reading_of}
 use Rattle.run_want.specs.declared.Answer.{Answer}
 use Rattle.run_want.specs.declared.Want.{Want}
 use Rattle.run_want.specs.declared.Want.TheVariants.{Clock, Sleep}
+use Rattle.run_want.specs.declared.message.Message.{Message}
 use Rattle.run_wait.specs.declared.Wait.{Wait}
 use Rattle.run_wait.specs.declared.Wait.TheVariants.{Checking, Napping}
 use Rattle.run_wait.specs.declared.Waited.{Waited}
@@ -20,7 +21,7 @@ abbrev pub poll_interval : Duration
 poll_interval = millis 2
 
 -- a look has found nothing: the clock is wanted, then a sleep
-abbrev pub wait_want : Wait → Want
+abbrev pub wait_want : Wait → Want Message
 wait_want (Checking opening) = Clock
 wait_want (Napping opening) = Sleep poll_interval
 

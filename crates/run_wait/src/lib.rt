@@ -8,6 +8,7 @@ pub mod look;
 ghost use Rattle.std.specs.Prelude.{◌≡◌};
 ghost use Rattle.run_wait.specs.Wait as Spec;
 
+use run_want::message::Message;
 use run_want::{Answer, Want, reading_of};
 use time::{Duration, Instant};
 
@@ -36,7 +37,7 @@ fn is_late(opening: Instant, length: Duration, now: Instant) -> bool
     opening <= now && length.0 <= now.0 - opening.0
 }
 
-pub fn wait_want(wait: Wait) -> Want
+pub fn wait_want(wait: Wait) -> Want<Message>
     ensures { result ≡ Spec.wait_want wait }
 {
     match wait {

@@ -1,8 +1,9 @@
--- What a run wants and what it is answered. Definitions only.
+-- What a run wants and what it is answered: document 01's 'The runs', its first paragraph. Definitions only.
 use Rattle.std.specs.Prelude.{Bool, true, false, Result, Ok, Err}
 use Rattle.time.specs.declared.Instant.{Instant}
 use Rattle.run_want.specs.declared.Want.{Want}
 use Rattle.run_want.specs.declared.Want.TheVariants.{Clock, Send, Sleep}
+use Rattle.run_want.specs.declared.message.Message.{Message}
 use Rattle.run_want.specs.declared.Answer.{Answer}
 use Rattle.run_want.specs.declared.Answer.TheVariants.{Reading, Send as Sending, Slept}
 use Rattle.run_want.specs.declared.Failure.{Failure}
@@ -10,7 +11,7 @@ use Rattle.run_want.specs.declared.SendError.{SendError}
 use Rattle.run_want.specs.declared.SendError.TheVariants.{Timeout, Failed}
 
 -- an answer of the kind that is wanted
-abbrev pub fits : Want → Answer → Bool
+abbrev pub fits : Want Message → Answer → Bool
 fits Clock (Reading t) = true
 fits Clock (Sending sent) = false
 fits Clock Slept = false

@@ -3,19 +3,20 @@
 #![tactic(auto)]
 
 pub mod message;
-pub mod step;
 
 ghost use Rattle.std.specs.Prelude.{◌≡◌};
 ghost use Rattle.run_want.specs.Want as Spec;
 
 use message::Message;
 use registers::RegisterValue;
+use std::ops::ControlFlow;
 use time::{Duration, Instant};
 
+// What is sent is a message, by which command it is, or to the caller a frame.
 #[derive(Clone, Copy)]
-pub enum Want {
+pub enum Want<M> {
     Clock,
-    Send(Message),
+    Send(M),
     Sleep(Duration),
 }
 
@@ -42,6 +43,9 @@ pub enum Failure {
     SendFailed,
 }
 
+// Where a step of a run leads: on to a phase, or to an end, or it fails.
+pub type Stepped<S, T> = Result<ControlFlow<T, S>, Failure>;
+
 impl From<SendError> for Failure {
     ghost from_gives = { λ error failure. failure ≡ Spec.failure_of error };
 
@@ -54,7 +58,7 @@ impl From<SendError> for Failure {
 }
 
 // Whether this kind of answer is wanted.
-pub fn fits(want: Want, answer: Answer) -> bool
+pub fn fits(want: Want<Message>, answer: Answer) -> bool
     ensures { result ≡ Spec.fits want answer }
 {
     matches!(

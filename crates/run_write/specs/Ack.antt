@@ -1,4 +1,4 @@
--- The ack wait: its opening comes after the send. Definitions only.
+-- The ack wait: document 01's 'The runs', its opening comes after the send. Definitions only.
 use Rattle.std.specs.Prelude.{cond, Err}
 use Rattle.time.specs.Time.{millis}
 use Rattle.time.specs.declared.Instant.{Instant}
@@ -13,6 +13,7 @@ use Rattle.run_want.specs.declared.Answer.{Answer}
 use Rattle.run_want.specs.declared.Failure.TheVariants.{Timeout, Mismatch}
 use Rattle.run_want.specs.declared.Want.{Want}
 use Rattle.run_want.specs.declared.Want.TheVariants.{Clock}
+use Rattle.run_want.specs.declared.message.Message.{Message}
 use Rattle.run_wait.specs.Look.{fresh_entry}
 use Rattle.run_wait.specs.Wait.{wait_want, wait_step}
 use Rattle.run_wait.specs.declared.Wait.{Wait}
@@ -24,7 +25,7 @@ use Rattle.run_write.specs.declared.ack.AckWait.TheVariants.{Opening, Waiting}
 abbrev pub ack_timeout : Duration
 ack_timeout = millis 50
 
-abbrev pub ack_want : AckWait → Want
+abbrev pub ack_want : AckWait → Want Message
 ack_want Opening = Clock
 ack_want (Waiting wait) = wait_want wait
 

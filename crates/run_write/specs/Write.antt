@@ -1,4 +1,4 @@
--- The confirmed write: three tries. Definitions only.
+-- The confirmed write: document 01's 'The runs', three tries. Definitions only.
 use Rattle.std.specs.Prelude.{ℕ, zero, suc, Ok, Err}
 use Rattle.motor_core.specs.Outcome.{and_then}
 use Rattle.time.specs.Time.{millis}
@@ -10,9 +10,10 @@ use Rattle.run_want.specs.Want.{send_outcome}
 use Rattle.run_want.specs.declared.Answer.{Answer}
 use Rattle.run_want.specs.declared.Failure.{Failure}
 use Rattle.run_want.specs.Step.{Stepped, goes, ends}
-use Rattle.run_want.specs.declared.step.Step.TheVariants.{Goes, Ends}
+use Rattle.std.specs.declared.ops.ControlFlow.TheVariants.{Continue, Break}
 use Rattle.run_want.specs.declared.Want.{Want}
 use Rattle.run_want.specs.declared.Want.TheVariants.{Send, Sleep}
+use Rattle.run_want.specs.declared.message.Message.{Message}
 use Rattle.run_want.specs.declared.message.Message.TheVariants.{WriteRegister}
 use Rattle.run_write.specs.Ack.{ack_want, ack_step}
 use Rattle.run_write.specs.declared.ack.AckWait.TheVariants.{Opening}
@@ -27,7 +28,7 @@ retry_gap = millis 20
 abbrev pub first_try : Write
 first_try = Sending 2
 
-abbrev pub write_want : ℕ → RegisterValue → Write → Want
+abbrev pub write_want : ℕ → RegisterValue → Write → Want Message
 write_want rid value (Sending tries_left) = Send (WriteRegister rid (bits_of value))
 write_want rid value (Waiting tries_left ack) = ack_want ack
 write_want rid value (Gap tries_left) = Sleep retry_gap
@@ -38,8 +39,8 @@ again zero failure = Err failure
 again (suc tries_left) failure = goes (Gap tries_left)
 
 abbrev pub write_waited : ℕ → Stepped AckWait (Unit {0}) → Stepped Write (Unit {0})
-write_waited tries_left (Ok (Goes ack)) = goes (Waiting tries_left ack)
-write_waited tries_left (Ok (Ends acked)) = ends tt
+write_waited tries_left (Ok (Continue ack)) = goes (Waiting tries_left ack)
+write_waited tries_left (Ok (Break acked)) = ends tt
 write_waited tries_left (Err failure) = again tries_left failure
 
 -- `write_register_u32`, `write_register_f32`, looking at the register's ack. A failed send is not tried again

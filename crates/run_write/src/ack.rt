@@ -5,9 +5,10 @@ ghost use Rattle.run_write.specs.Ack as Spec;
 use registers::{RegisterValue, register_value_matches};
 use run_wait::look::fresh_entry;
 use run_wait::{Wait, Waited, wait_step, wait_want};
-use run_want::step::{Step, Stepped};
-use run_want::{Answer, Failure, Want, reading_of};
+use run_want::message::Message;
+use run_want::{Answer, Failure, Stepped, Want, reading_of};
 use state_cache::Entry;
+use std::ops::ControlFlow;
 use time::{Duration, Instant};
 
 // In nanoseconds.
@@ -20,7 +21,7 @@ pub enum AckWait {
     Waiting(Wait),
 }
 
-pub(crate) fn ack_want(ack: AckWait) -> Want
+pub(crate) fn ack_want(ack: AckWait) -> Want<Message>
     ensures { result ≡ Spec.ack_want ack }
 {
     match ack {
@@ -33,8 +34,8 @@ fn ack_look(opening: Instant, value: RegisterValue, entry: Entry) -> Stepped<Ack
     ensures { result ≡ Spec.ack_look opening value entry }
 {
     match fresh_entry(opening, entry) {
-        Entry::Empty => Ok(Step::Goes(AckWait::Waiting(Wait::Checking(opening)))),
-        Entry::Held(got, _) if register_value_matches(got, value) => Ok(Step::Ends(())),
+        Entry::Empty => Ok(ControlFlow::Continue(AckWait::Waiting(Wait::Checking(opening)))),
+        Entry::Held(got, _) if register_value_matches(got, value) => Ok(ControlFlow::Break(())),
         Entry::Held(got, _) => Err(Failure::Mismatch(got)),
     }
 }
@@ -50,7 +51,7 @@ pub(crate) fn ack_step(
     match ack {
         AckWait::Opening => ack_look(reading_of(answer), value, entry),
         AckWait::Waiting(wait) => match wait_step(WRITE_REGISTER_ACK_TIMEOUT, wait, answer) {
-            Waited::Goes(next) => Ok(Step::Goes(AckWait::Waiting(next))),
+            Waited::Goes(next) => Ok(ControlFlow::Continue(AckWait::Waiting(next))),
             Waited::Looks(opening) => ack_look(opening, value, entry),
             Waited::Late => Err(Failure::Timeout),
         },

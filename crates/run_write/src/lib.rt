@@ -10,9 +10,9 @@ ghost use Rattle.run_write.specs.Write as Spec;
 use ack::{AckWait, ack_step, ack_want};
 use registers::{RegisterValue, value_bits};
 use run_want::message::Message;
-use run_want::step::{Step, Stepped};
-use run_want::{Answer, Failure, Want, send_outcome};
+use run_want::{Answer, Failure, Stepped, Want, send_outcome};
 use state_cache::Entry;
+use std::ops::ControlFlow;
 use time::Duration;
 
 const WRITE_REGISTER_ACK_ATTEMPTS: u8 = 3;
@@ -34,7 +34,7 @@ pub fn first_try() -> Write
     Write::Sending(WRITE_REGISTER_ACK_ATTEMPTS - 1)
 }
 
-pub fn write_want(rid: u8, value: RegisterValue, write: Write) -> Want
+pub fn write_want(rid: u8, value: RegisterValue, write: Write) -> Want<Message>
     ensures { result ≡ Spec.write_want rid value write }
 {
     match write {
@@ -51,15 +51,14 @@ fn again(tries_left: u8, failure: Failure) -> Stepped<Write, ()>
     if tries_left == 0 {
         return Err(failure);
     }
-    Ok(Step::Goes(Write::Gap(tries_left - 1)))
+    Ok(ControlFlow::Continue(Write::Gap(tries_left - 1)))
 }
 
 fn write_waited(tries_left: u8, ack: Stepped<AckWait, ()>) -> Stepped<Write, ()>
     ensures { result ≡ Spec.write_waited tries_left ack }
 {
     match ack {
-        Ok(Step::Goes(next)) => Ok(Step::Goes(Write::Waiting(tries_left, next))),
-        Ok(Step::Ends(())) => Ok(Step::Ends(())),
+        Ok(step) => Ok(step.map_continue(|next| Write::Waiting(tries_left, next))),
         Err(failure) => again(tries_left, failure),
     }
 }
@@ -76,12 +75,12 @@ pub fn write_step(
     match write {
         Write::Sending(tries_left) => {
             send_outcome(answer)?;
-            Ok(Step::Goes(Write::Waiting(tries_left, AckWait::Opening)))
+            Ok(ControlFlow::Continue(Write::Waiting(tries_left, AckWait::Opening)))
         }
         Write::Waiting(tries_left, ack) => write_waited(
             tries_left,
             ack_step(value, entry, ack, answer),
         ),
-        Write::Gap(tries_left) => Ok(Step::Goes(Write::Sending(tries_left))),
+        Write::Gap(tries_left) => Ok(ControlFlow::Continue(Write::Sending(tries_left))),
     }
 }

@@ -1,5 +1,5 @@
 -- A fresh session, the changes of one part of a session, and a patch. Definitions only.
-use Rattle.std.specs.Prelude.{ℕ, true, false, List, replicate, Option, Some, None}
+use Rattle.std.specs.Prelude.{ℕ, Bool, true, false, List, replicate, Option, Some, None}
 use Rattle.motor_core.specs.declared.model.PvTLimits.{PvTLimits}
 use Rattle.time.specs.declared.Instant.{Instant}
 use Rattle.state_feedback.specs.Feedback.{no_feedback, patch_latest}
@@ -9,9 +9,9 @@ use Rattle.state_cache.specs.declared.Entry.TheVariants.{Empty}
 use Rattle.run_machine.specs.declared.Machine.{Machine}
 use Rattle.session.specs.declared.Head.{Head}
 use Rattle.session.specs.declared.Session.{Session}
-use Rattle.session.specs.declared.AfterPatch.{AfterPatch}
+use Rattle.session.specs.declared.After.{After}
 
--- a fresh session: caches and record empty, number and last reading 0, no run
+-- 'The runs', a fresh session: caches and record empty, number and last reading 0, no run
 abbrev pub fresh_head : ℕ → ℕ → PvTLimits → Head
 fresh_head motor_id feedback_id limits = record { motor_id = motor_id; feedback_id = feedback_id; limits = limits; feedback = no_feedback; last = record { 0 = 0 } }
 
@@ -45,10 +45,13 @@ with_run s run = record { head = s.head; replies = s.replies; acks = s.acks; run
 
 -- ---- a patch
 
--- nothing but the latest record changes; without one nothing does
+abbrev pub AfterPatch : Type 0
+AfterPatch = After Bool
+
+-- 'The feedback on the screen': nothing but the latest record changes; without one nothing does
 abbrev pub with_patch : Session → Option FeedbackCache → AfterPatch
-with_patch s None = record { session = s; patched = false }
-with_patch s (Some cache) = record { session = with_head s (with_feedback s.head cache); patched = true }
+with_patch s None = record { session = s; told = false }
+with_patch s (Some cache) = record { session = with_head s (with_feedback s.head cache); told = true }
 
 abbrev pub patch : Session → ℕ → ℕ → ℕ → AfterPatch
 patch s status mos rotor = with_patch s (patch_latest s.head.feedback status mos rotor)

@@ -12,7 +12,7 @@ use Rattle.model_list.specs.declared.MotorModelSpec.{MotorModelSpec}
 use Rattle.session.specs.Session.{fresh}
 use Rattle.session.specs.declared.Session.{Session}
 
--- the limits are tested first, then the motor id
+-- 'Turned back', start: the limits are tested first, 1, then the motor id, 2
 abbrev pub with_limits : ℕ → ℕ → PvTLimits → Result Session Refusal
 with_limits motor_id feedback_id limits = cond (motor_id_accepted motor_id) (Ok (fresh motor_id feedback_id limits)) (Err MotorId)
 

@@ -35,12 +35,15 @@ pub struct Session {
     pub run: Option<Machine>,
 }
 
-// The session goes by value, so that it stands beside the answer.
+// A session goes by value, so that it stands beside what a call tells; first, since copies of it are
+// cheaper so.
 #[derive(Clone, Copy)]
-pub struct AfterPatch {
+pub struct After<T> {
     pub session: Session,
-    pub patched: bool,
+    pub told: T,
 }
+
+pub type AfterPatch = After<bool>;
 
 // Whether a frame may be this motor's. Taking a frame does not ask.
 pub fn accepts_frame(head: Head, frame: CanFrame) -> bool
@@ -63,14 +66,14 @@ pub fn patch_latest(mut session: Session, status: u8, t_mos: u8, t_rotor: u8) ->
     match state_feedback::patch_latest(session.head.feedback, status, t_mos, t_rotor) {
         Some(feedback) => {
             session.head.feedback = feedback;
-            AfterPatch {
+            After {
                 session,
-                patched: true,
+                told: true,
             }
         }
-        None => AfterPatch {
+        None => After {
             session,
-            patched: false,
+            told: false,
         },
     }
 }

@@ -13,8 +13,9 @@ use Rattle.run_want.specs.Want.{fits}
 use Rattle.run_want.specs.declared.Answer.{Answer}
 use Rattle.run_want.specs.declared.Answer.TheVariants.{Reading, Send as Sending, Slept}
 use Rattle.run_want.specs.declared.Want.{Want}
+use Rattle.run_want.specs.declared.message.Message.{Message}
 use Rattle.run_want.specs.declared.Want.TheVariants.{Clock, Send, Sleep}
-use Rattle.run_want.specs.declared.step.Step.TheVariants.{Goes, Ends}
+use Rattle.std.specs.declared.ops.ControlFlow.TheVariants.{Continue, Break}
 use Rattle.run_machine.specs.Machine.{machine_want}
 use Rattle.run_step.specs.Step.{machine_step}
 use Rattle.run_machine.specs.declared.Machine.{Machine}
@@ -28,7 +29,7 @@ use Rattle.session_answer.specs.Answer.{run_place, entry_at, with_step, answer_r
 use Rattle.session_step.specs.declared.AnswerStep.{AnswerStep}
 use Rattle.session_step.proofs.Cases.{accepted_by, step_cases}
 use Rattle.session_step.specs.declared.Told.{Told}
-use Rattle.session_answer.specs.declared.AfterCall.{AfterCall}
+use Rattle.session_answer.specs.Answer.{AfterCall}
 
 -- an answer changes nothing of the head but the last reading
 head_same : {A : Type 0} {h : Head} (part : Head → A) → ((t : Instant) → part (with_last h t) ≡ part h) → (a : Answer) → part (with_reading h a) ≡ part h
@@ -63,8 +64,8 @@ module _ (s : Session) (a : Answer) where
   answer_follows = answer_cases (ToldTruly s) (λ n. refl) (λ m o f e. next (machine_step s.head.feedback.latest (entry s) m a))
     where
       next : (n : Stepped Machine Outcome) → ToldTruly s (with_step s (Ok (stepped (with_reading s.head a) n)))
-      next (Ok (Goes m)) = record { machine = m; is_open = refl; tells = refl }
-      next (Ok (Ends r)) = refl
+      next (Ok (Continue m)) = record { machine = m; is_open = refl; tells = refl }
+      next (Ok (Break r)) = refl
       next (Err failure) = refl
 
   -- ids, limits, record and caches stay
@@ -85,8 +86,8 @@ module _ (s : Session) (a : Answer) where
       }
 
       next : (n : Stepped Machine Outcome) → Unchanged s (with_step s (Ok (stepped (with_reading s.head a) n))).session
-      next (Ok (Goes m)) = kept (Some m)
-      next (Ok (Ends r)) = kept None
+      next (Ok (Continue m)) = kept (Some m)
+      next (Ok (Break r)) = kept None
       next (Err failure) = kept None
 
 -- ---- a refusal
@@ -111,13 +112,13 @@ answer_last s a = answer_cases s a (λ t. InBounds s t.session) (λ n. (le_refl 
     later Slept e = (le_refl _, λ b. b)
 
     next : (n : Stepped Machine Outcome) (b : Answer) → answer_accepted s.head.last b ≡ true → InBounds s (with_step s (Ok (stepped (with_reading s.head b) n))).session
-    next (Ok (Goes m)) b e = later b e
-    next (Ok (Ends r)) b e = later b e
+    next (Ok (Continue m)) b e = later b e
+    next (Ok (Break r)) b e = later b e
     next (Err failure) b e = later b e
 
 -- ---- an open run always has an answer that is accepted
 
-pub answerable : (last : Instant) (w : Want) → last.0 ≤ 2 ^ 62 → (a : Answer) × (fits w a ≡ true) × (answer_accepted last a ≡ true)
+pub answerable : (last : Instant) (w : Want Message) → last.0 ≤ 2 ^ 62 → (a : Answer) × (fits w a ≡ true) × (answer_accepted last a ≡ true)
 answerable last Clock b = (Reading last, refl, in_order last last (le_refl _) b)
 answerable last (Send message) b = (Sending (Ok tt), refl, refl)
 answerable last (Sleep length) b = (Slept, refl, refl)

@@ -5,25 +5,29 @@ use Rattle.state_cache.specs.Cache.{slot_of}
 use Rattle.state_cache.specs.declared.Entry.{Entry}
 use Rattle.state_cache.specs.declared.Entry.TheVariants.{Empty}
 use Rattle.state_cache.specs.declared.Place.{Place}
-use Rattle.state_cache.specs.declared.Place.TheVariants.{Nowhere, Reply, Ack}
+use Rattle.state_cache.specs.declared.Place.TheVariants.{Reply, Ack}
 use Rattle.run_want.specs.declared.Answer.{Answer}
 use Rattle.run_machine.specs.Machine.{machine_place}
 use Rattle.run_machine.specs.declared.Machine.{Machine}
 use Rattle.session.specs.Session.{with_head, with_run}
 use Rattle.session.specs.declared.Session.{Session}
+use Rattle.session.specs.declared.After.{After}
 use Rattle.session_step.specs.Parts.{answer_step}
 use Rattle.session_step.specs.declared.AnswerStep.{AnswerStep}
-use Rattle.session_answer.specs.declared.AfterCall.{AfterCall}
+use Rattle.session_step.specs.declared.Told.{Told}
 
 -- the entry that the run looks at
-abbrev pub run_place : Option Machine → Place
-run_place None = Nowhere
+abbrev pub run_place : Option Machine → Option Place
+run_place None = None
 run_place (Some machine) = machine_place machine
 
-abbrev pub entry_at : List Entry → List Entry → Place → Entry
-entry_at replies acks Nowhere = Empty
-entry_at replies acks (Reply rid) = slot_of replies rid
-entry_at replies acks (Ack rid) = slot_of acks rid
+abbrev pub entry_at : List Entry → List Entry → Option Place → Entry
+entry_at replies acks None = Empty
+entry_at replies acks (Some (Reply rid)) = slot_of replies rid
+entry_at replies acks (Some (Ack rid)) = slot_of acks rid
+
+abbrev pub AfterCall : Type 0
+AfterCall = After (Result Told Refusal)
 
 -- the caches stay; a refusal leaves the session as it was
 abbrev pub with_step : Session → Result AnswerStep Refusal → AfterCall

@@ -5,10 +5,9 @@ use Rattle.run_machine.specs.Machine.{machine_want}
 use Rattle.run_machine.specs.declared.Machine.{Machine}
 use Rattle.session.specs.declared.Head.{Head}
 use Rattle.session.specs.declared.Session.{Session}
-use Rattle.session_step.specs.Parts.{caller_want}
+use Rattle.session_step.specs.Parts.{Wanted, caller_want}
 use Rattle.session_step.specs.declared.Told.{Told}
-use Rattle.session_step.specs.declared.Wanted.{Wanted}
-use Rattle.session_answer.specs.declared.AfterCall.{AfterCall}
+use Rattle.session_answer.specs.Answer.{AfterCall}
 
 -- an open run whose machine wants just what was returned
 pub record Wants (h : Head) (want : Wanted) (run : Option Machine) : Type 0 where

@@ -5,7 +5,7 @@ use Rattle.motor_core.specs.declared.error.Refusal.{Refusal}
 use Rattle.run_machine.specs.declared.Machine.{Machine}
 use Rattle.session.specs.declared.Session.{Session}
 use Rattle.session_answer.specs.Effects.{ToldTruly, Unchanged}
-use Rattle.session_answer.specs.declared.AfterCall.{AfterCall}
+use Rattle.session_answer.specs.Answer.{AfterCall}
 use Rattle.session_answer.proofs.Effects.{untouched}
 use Rattle.session_begin.specs.Begin.{start_step, with_opened, begin}
 

@@ -1,4 +1,4 @@
--- The starts of the runs. Definitions only.
+-- The starts of the runs: document 01's 'The runs' and 'Turned back'. Definitions only.
 use Rattle.std.specs.Prelude.{ℕ, Option, Some, None, Result, Ok, Err}
 use Rattle.float.specs.declared.F32Bits.{F32Bits}
 use Rattle.motor_core.specs.declared.error.Refusal.{Refusal}
@@ -11,7 +11,7 @@ use Rattle.run_machine.specs.declared.Machine.{Machine}
 use Rattle.session.specs.declared.Session.{Session}
 use Rattle.session_step.specs.Parts.{caller_want}
 use Rattle.session_step.specs.declared.Told.TheVariants as Told
-use Rattle.session_answer.specs.declared.AfterCall.{AfterCall}
+use Rattle.session_answer.specs.Answer.{AfterCall}
 use Rattle.run_arguments.specs.Arguments.{get_start, write_start, fresh_state_start, store_start, mode_start}
 use Rattle.session.specs.Session.{with_run}
 

@@ -10,7 +10,7 @@ use motor_core::error::Refusal;
 use registers::{RegisterDataType, RegisterValue, value_from_bits};
 use run_arguments::{fresh_state_start, get_start, mode_start, store_start, write_start};
 use run_machine::{Machine, machine_want};
-use session::Session;
+use session::{After, Session};
 use session_answer::AfterCall;
 use session_step::{Told, caller_want};
 use time::Duration;
@@ -31,12 +31,12 @@ fn begin(mut session: Session, start: Result<Machine, Refusal>) -> AfterCall
     match start_step(session.run, start) {
         Ok(machine) => {
             session.run = Some(machine);
-            AfterCall {
+            After {
                 session,
                 told: Ok(Told::Want(caller_want(session.head, machine_want(machine)))),
             }
         }
-        Err(refusal) => AfterCall {
+        Err(refusal) => After {
             session,
             told: Err(refusal),
         },

@@ -204,11 +204,11 @@ module _ (s : Session) (frame : CanFrame) (t : Instant) where
   }
 
   -- what the call answers, and that a refused frame leaves all
-  pub outcome_of_frame : (take_frame s frame t).outcome ≡ outcome
+  pub outcome_of_frame : (take_frame s frame t).told ≡ outcome
   unfolding take_frame
   outcome_of_frame = refl
 
-  pub turned_back : (n : Refusal) → (take_frame s frame t).outcome ≡ Err n → after ≡ s
+  pub turned_back : (n : Refusal) → (take_frame s frame t).told ≡ Err n → after ≡ s
   unfolding take_frame
   turned_back n e = ap (λ (o : FrameOutcome). take_by o s frame t) e
 

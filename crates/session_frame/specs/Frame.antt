@@ -13,15 +13,15 @@ use Rattle.state_feedback.specs.Feedback.{state_of, update}
 use Rattle.state_feedback.specs.declared.FeedbackCache.{FeedbackCache}
 use Rattle.state_cache.specs.declared.Entry.{Entry}
 use Rattle.state_cache.specs.declared.Entry.TheVariants.{Held}
+use Rattle.state_cache.specs.declared.Place.{Place}
+use Rattle.state_cache.specs.declared.Place.TheVariants as Place
 use Rattle.session.specs.Session.{with_feedback, with_last, with_head, with_replies, with_acks}
 use Rattle.session.specs.declared.Head.{Head}
 use Rattle.session.specs.declared.Session.{Session}
-use Rattle.session_frame.specs.declared.Kept.{Kept}
-use Rattle.session_frame.specs.declared.Kept.TheVariants as Keep
+use Rattle.session.specs.declared.After.{After}
 use Rattle.session_frame.specs.declared.FrameStep.{FrameStep}
-use Rattle.session_frame.specs.declared.AfterFrame.{AfterFrame}
 
--- a frame is taken, or refused by its reading; nothing of the frame itself is tested
+-- 'Turned back', a frame: 3 by its reading, or it is taken; nothing of the frame itself is tested
 abbrev pub FrameOutcome : Type 0
 FrameOutcome = Result (Unit {0}) Refusal
 
@@ -32,7 +32,7 @@ frame_outcome head frame reading = cond (reading_accepted head.last reading) (Ok
 abbrev pub head_at : Head → FeedbackCache → Instant → Head
 head_at h feedback reading = with_last (with_feedback h feedback) reading
 
--- a feedback becomes the latest record, with the frame's arbitration id
+-- 'The feedback on the screen': a feedback becomes the latest record, with the frame's arbitration id
 abbrev pub feedback_after : FeedbackCache → ℕ → Received → Instant → FeedbackCache
 feedback_after cache id (Feedback f) reading = update cache (state_of id f) reading
 feedback_after cache id (Reply rid value) reading = cache
@@ -52,7 +52,7 @@ ack_of (Reply rid value) = None
 ack_of (Ack rid value) = Some (rid, value)
 ack_of (Feedback f) = None
 
--- a value goes into its register's slot, stamped with the frame's reading
+-- 'The register answers': a value goes into its register's slot, stamped with the frame's reading
 abbrev pub stored : Option (ℕ × RegisterValue) → Instant → List Entry → List Entry
 stored None reading slots = slots
 stored (Some x) reading slots = set slots x.0 (Held x.1 reading)
@@ -74,17 +74,20 @@ abbrev pub take_by : FrameOutcome → Session → CanFrame → Instant → Sessi
 take_by (Ok taken) s frame reading = with_received s frame.arbitration_id (says s.head frame) reading
 take_by (Err refusal) s frame reading = s
 
+abbrev pub AfterFrame : Type 0
+AfterFrame = After FrameOutcome
+
 -- a frame taken into a session, or refused with the session as it was
 unfoldable pub take_frame : Session → CanFrame → Instant → AfterFrame
 take_frame s frame reading =
     let outcome = frame_outcome s.head frame reading in
-    record { session = take_by outcome s frame reading; outcome = outcome }
+    record { session = take_by outcome s frame reading; told = outcome }
 
 -- The same on the small parts, and what is to be kept in a cache.
-abbrev pub kept_of : Received → Instant → Kept
-kept_of (Reply rid value) reading = Keep.Reply rid (Held value reading)
-kept_of (Ack rid value) reading = Keep.Ack rid (Held value reading)
-kept_of (Feedback f) reading = Keep.Nothing
+abbrev pub kept_of : Received → Instant → Option (Place × Entry)
+kept_of (Reply rid value) reading = Some (Place.Reply rid, Held value reading)
+kept_of (Ack rid value) reading = Some (Place.Ack rid, Held value reading)
+kept_of (Feedback f) reading = None
 
 abbrev pub taken_step : Head → ℕ → Received → Instant → FrameStep
 taken_step h id received reading = record { head = head_after h id received reading; kept = kept_of received reading }

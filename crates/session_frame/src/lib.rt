@@ -7,32 +7,19 @@ ghost use Rattle.session_frame.specs.Frame as Spec;
 use motor_core::bus::CanFrame;
 use motor_core::error::Refusal;
 use protocol_received::{Received, read_frame};
-use session::{Head, Session};
-use state_cache::Entry;
+use session::{After, Head};
+use state_cache::{Entry, Place};
 use state_feedback::{FeedbackCache, state_of, update};
 use time::{Instant, accepts_reading};
 
-// What a frame leaves in a cache: a register's entry, of the replies or of the acks.
-#[derive(Clone, Copy)]
-pub enum Kept {
-    Nothing,
-    Reply(u8, Entry),
-    Ack(u8, Entry),
-}
-
-// The small parts after a frame, and what is to be kept.
+// The small parts after a frame, and the entry that is to be kept in a cache.
 #[derive(Clone, Copy)]
 pub struct FrameStep {
     pub head: Head,
-    pub kept: Kept,
+    pub kept: Option<(Place, Entry)>,
 }
 
-// The session goes by value, so that it stands beside the outcome; first, since copies of it are cheaper so.
-#[derive(Clone, Copy)]
-pub struct AfterFrame {
-    pub session: Session,
-    pub outcome: Result<(), Refusal>,
-}
+pub type AfterFrame = After<Result<(), Refusal>>;
 
 fn head_at(head: Head, feedback: FeedbackCache, reading: Instant) -> Head
     ensures { result ≡ Spec.head_at head feedback reading }
@@ -52,17 +39,17 @@ fn taken_step(head: Head, arbitration_id: u32, received: Received, reading: Inst
     match received {
         Received::Reply(rid, value) => FrameStep {
             head: head_at(head, feedback, reading),
-            kept: Kept::Reply(rid, Entry::Held(value, reading)),
+            kept: Some((Place::Reply(rid), Entry::Held(value, reading))),
         },
         Received::Ack(rid, value) => FrameStep {
             head: head_at(head, feedback, reading),
-            kept: Kept::Ack(rid, Entry::Held(value, reading)),
+            kept: Some((Place::Ack(rid), Entry::Held(value, reading))),
         },
         Received::Feedback(decoded) => {
             let state = state_of(arbitration_id, decoded);
             FrameStep {
                 head: head_at(head, update(feedback, state, reading), reading),
-                kept: Kept::Nothing,
+                kept: None,
             }
         }
     }

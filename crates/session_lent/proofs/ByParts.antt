@@ -7,7 +7,7 @@ use Rattle.motor_core.proofs.Turned.{clash}
 use Rattle.motor_core.specs.Outcome.{and_then}
 use Rattle.motor_core.specs.declared.error.Refusal.{Refusal}
 use Rattle.motor_core.specs.declared.bus.CanFrame.{CanFrame}
-use Rattle.std.specs.Prelude.{Result, Ok, Err}
+use Rattle.std.specs.Prelude.{Option, Result, Ok, Err}
 use Rattle.time.specs.declared.Instant.{Instant}
 use Rattle.registers.specs.Registers.{known}
 use Rattle.registers.proofs.Below.{known_below}
@@ -20,10 +20,10 @@ use Rattle.state_cache.specs.Cache.{slot_place}
 use Rattle.state_cache.specs.declared.Entry.TheVariants.{Held}
 use Rattle.state_cache.proofs.Places.{own_slot}
 use Rattle.session.specs.declared.Session.{Session}
-use Rattle.session_frame.specs.Frame.{FrameOutcome, frame_outcome, head_after, with_received, says, take_by, take_frame, taken_step, frame_step}
+use Rattle.session_frame.specs.Frame.{FrameOutcome, AfterFrame, frame_outcome, head_after, with_received, says, take_by, take_frame, taken_step, frame_step}
 use Rattle.session_frame.specs.declared.FrameStep.{FrameStep}
-use Rattle.session_frame.specs.declared.AfterFrame.{AfterFrame}
-use Rattle.session_frame.specs.declared.Kept.{Kept}
+use Rattle.state_cache.specs.declared.Entry.{Entry}
+use Rattle.state_cache.specs.declared.Place.{Place}
 use Rattle.session_lent.specs.Lent.{put_kept, put_back}
 use Rattle.session.specs.Session.{with_head, with_replies, with_acks}
 
@@ -39,7 +39,7 @@ module _ (s : Session) where
 
 module _ (s : Session) (frame : CanFrame) (t : Instant) where
   -- a step that was made, put back
-  pub by_parts : (step : FrameStep) → frame_step s.head frame t ≡ Ok step → take_frame s frame t ≡ record { session = put_back s step; outcome = Ok tt }
+  pub by_parts : (step : FrameStep) → frame_step s.head frame t ≡ Ok step → take_frame s frame t ≡ record { session = put_back s step; told = Ok tt }
   unfolding take_frame frame_step
   by_parts step = go (frame_outcome s.head frame t)
     where
@@ -49,32 +49,32 @@ module _ (s : Session) (frame : CanFrame) (t : Instant) where
       the_same : (x : FrameStep) → ◌≡◌ {A = Result FrameStep Refusal} (Ok x) (Ok step) → x ≡ step
       the_same x h = cc
 
-      go : (o : FrameOutcome) → and_then o (λ taken. Ok whole) ≡ Ok step → ◌≡◌ {A = AfterFrame} (record { session = take_by o s frame t; outcome = o }) (record { session = put_back s step; outcome = Ok tt })
-      go (Ok taken) h = λ i. record { session = (sym (back_taken s frame.arbitration_id (d frame.«data» 3) (says s.head frame) t (of_register s.head.limits frame.«data»)) ∙ ap (put_back s) (the_same whole h)) i; outcome = Ok tt }
+      go : (o : FrameOutcome) → and_then o (λ taken. Ok whole) ≡ Ok step → ◌≡◌ {A = AfterFrame} (record { session = take_by o s frame t; told = o }) (record { session = put_back s step; told = Ok tt })
+      go (Ok taken) h = λ i. record { session = (sym (back_taken s frame.arbitration_id (d frame.«data» 3) (says s.head frame) t (of_register s.head.limits frame.«data»)) ∙ ap (put_back s) (the_same whole h)) i; told = Ok tt }
       go (Err refusal) h = absurd (clash (cc))
 
   -- one that was refused
-  pub lent_refused : (refusal : Refusal) → frame_step s.head frame t ≡ Err refusal → take_frame s frame t ≡ record { session = s; outcome = Err refusal }
+  pub lent_refused : (refusal : Refusal) → frame_step s.head frame t ≡ Err refusal → take_frame s frame t ≡ record { session = s; told = Err refusal }
   unfolding take_frame frame_step
   lent_refused refusal = go (frame_outcome s.head frame t)
     where
       the_same : (x : Refusal) → ◌≡◌ {A = Result FrameStep Refusal} (Err x) (Err refusal) → x ≡ refusal
       the_same x h = cc
 
-      go : (o : FrameOutcome) → and_then o (λ taken. Ok (taken_step s.head frame.arbitration_id (says s.head frame) t)) ≡ Err refusal → ◌≡◌ {A = AfterFrame} (record { session = take_by o s frame t; outcome = o }) (record { session = s; outcome = Err refusal })
+      go : (o : FrameOutcome) → and_then o (λ taken. Ok (taken_step s.head frame.arbitration_id (says s.head frame) t)) ≡ Err refusal → ◌≡◌ {A = AfterFrame} (record { session = take_by o s frame t; told = o }) (record { session = s; told = Err refusal })
       go (Ok taken) h = absurd (clash (cc))
-      go (Err x) h = λ i. record { session = s; outcome = Err (the_same x h i) }
+      go (Err x) h = λ i. record { session = s; told = Err (the_same x h i) }
 
 -- as the code comes to it: r is what the step gave, k what it keeps
 module _ (s : Session) (frame : CanFrame) (t : Instant) (r : Result FrameStep Refusal) (gave : r ≡ frame_step s.head frame t) where
-  pub taken_outcome : (step : FrameStep) → r ≡ Ok step → Ok tt ≡ (take_frame s frame t).outcome
-  taken_outcome step e = ap (λ (a : AfterFrame). a.outcome) (sym (by_parts s frame t step (sym gave ∙ e)))
+  pub taken_outcome : (step : FrameStep) → r ≡ Ok step → Ok tt ≡ (take_frame s frame t).told
+  taken_outcome step e = ap (λ (a : AfterFrame). a.told) (sym (by_parts s frame t step (sym gave ∙ e)))
 
-  pub taken_session : (step : FrameStep) (k : Kept) → r ≡ Ok step → step.kept ≡ k → put_kept (with_head s step.head) k ≡ (take_frame s frame t).session
+  pub taken_session : (step : FrameStep) (k : Option (Place × Entry)) → r ≡ Ok step → step.kept ≡ k → put_kept (with_head s step.head) k ≡ (take_frame s frame t).session
   taken_session step k e kept = ap (put_kept (with_head s step.head)) (sym kept) ∙ ap (λ (a : AfterFrame). a.session) (sym (by_parts s frame t step (sym gave ∙ e)))
 
-  pub refused_outcome : (refusal : Refusal) → r ≡ Err refusal → Err refusal ≡ (take_frame s frame t).outcome
-  refused_outcome refusal e = ap (λ (a : AfterFrame). a.outcome) (sym (lent_refused s frame t refusal (sym gave ∙ e)))
+  pub refused_outcome : (refusal : Refusal) → r ≡ Err refusal → Err refusal ≡ (take_frame s frame t).told
+  refused_outcome refusal e = ap (λ (a : AfterFrame). a.told) (sym (lent_refused s frame t refusal (sym gave ∙ e)))
 
   pub refused_session : (refusal : Refusal) → r ≡ Err refusal → s ≡ (take_frame s frame t).session
   refused_session refusal e = ap (λ (a : AfterFrame). a.session) (sym (lent_refused s frame t refusal (sym gave ∙ e)))

@@ -7,27 +7,28 @@ ghost use Rattle.session_frame.specs.Frame.{take_frame};
 
 use motor_core::bus::CanFrame;
 use motor_core::error::Refusal;
-use session::Session;
-use session_frame::{AfterFrame, Kept, frame_step};
-use state_cache::slot_place;
+use session::{After, Session};
+use session_frame::{AfterFrame, frame_step};
+use state_cache::{Place, slot_place};
 use time::Instant;
 
 // Takes a frame, with its reading, into the session that is lent.
-#[tactic(auto, using(crate::proofs::ByParts::refused_outcome, crate::proofs::ByParts::refused_session, state_cache::proofs::Places::slot_below))]
+#[tactic(auto, using(crate::proofs::ByParts::taken_outcome, crate::proofs::ByParts::taken_session, crate::proofs::ByParts::refused_outcome, crate::proofs::ByParts::refused_session, state_cache::proofs::Places::slot_below))]
 pub fn process_feedback_frame(
     session: &mut Session,
     frame: CanFrame,
     reading: Instant,
 ) -> Result<(), Refusal>
-    ensures outcome { result ≡ (take_frame session.old frame reading).outcome }
+    ensures outcome { result ≡ (take_frame session.old frame reading).told }
     ensures session { session.new ≡ (take_frame session.old frame reading).session }
 {
     let step = frame_step(session.head, frame, reading)?;
     session.head = step.head;
-    match step.kept {
-        Kept::Nothing => {}
-        Kept::Reply(rid, entry) => session.replies[slot_place(rid)] = entry,
-        Kept::Ack(rid, entry) => session.acks[slot_place(rid)] = entry,
+    if let Some((place, entry)) = step.kept {
+        match place {
+            Place::Reply(rid) => session.replies[slot_place(rid)] = entry,
+            Place::Ack(rid) => session.acks[slot_place(rid)] = entry,
+        }
     }
     Ok(())
 }
@@ -36,6 +37,6 @@ pub fn process_feedback_frame(
 pub fn take_frame(mut session: Session, frame: CanFrame, reading: Instant) -> AfterFrame
     ensures { result ≡ take_frame session frame reading }
 {
-    let outcome = process_feedback_frame(&mut session, frame, reading);
-    AfterFrame { session, outcome }
+    let told = process_feedback_frame(&mut session, frame, reading);
+    After { session, told }
 }

@@ -1,7 +1,8 @@
--- An answer to a run, in the small parts of a session. Definitions only.
+-- An answer to a run, in the small parts of a session: document 01's 'The runs' and 'Turned back'. Definitions only.
 use Rattle.std.specs.Prelude.{Bool, true, cond, Option, Some, None, Result, Ok, Err}
 use Rattle.motor_core.specs.declared.error.Refusal.{Refusal}
 use Rattle.protocol_frame.specs.Command.{command}
+use Rattle.protocol_frame.specs.declared.Command.{Command}
 use Rattle.time.specs.Time.{reading_accepted}
 use Rattle.time.specs.declared.Instant.{Instant}
 use Rattle.state_cache.specs.declared.Entry.{Entry}
@@ -11,8 +12,9 @@ use Rattle.run_want.specs.Want.{fits}
 use Rattle.run_want.specs.declared.Answer.{Answer}
 use Rattle.run_want.specs.declared.Answer.TheVariants.{Reading, Send as Sending, Slept}
 use Rattle.run_want.specs.declared.Want.{Want}
+use Rattle.run_want.specs.declared.message.Message.{Message}
 use Rattle.run_want.specs.declared.Want.TheVariants.{Clock, Send, Sleep}
-use Rattle.run_want.specs.declared.step.Step.TheVariants.{Goes, Ends}
+use Rattle.std.specs.declared.ops.ControlFlow.TheVariants.{Continue, Break}
 use Rattle.run_machine.specs.Machine.{machine_want}
 use Rattle.run_machine.specs.declared.Machine.{Machine}
 use Rattle.run_machine.specs.declared.Outcome.{Outcome}
@@ -20,16 +22,19 @@ use Rattle.run_step.specs.Step.{machine_step}
 use Rattle.session.specs.Session.{with_last}
 use Rattle.session.specs.declared.Head.{Head}
 use Rattle.session_step.specs.declared.Told.{Told}
-use Rattle.session_step.specs.declared.Wanted.{Wanted}
 use Rattle.session_step.specs.declared.AnswerStep.{AnswerStep}
 
--- a want in the caller's terms: a send by the id and bytes of its message's frame
-abbrev pub caller_want : Head → Want → Wanted
-caller_want h Clock = Wanted.Clock
-caller_want h (Send message) = Wanted.Send (command (message_id h.motor_id message) (message_data h.motor_id h.limits message))
-caller_want h (Sleep length) = Wanted.Sleep length
+-- what the caller is to do next
+abbrev pub Wanted : Type 0
+Wanted = Want Command
 
--- whether it is accepted by its reading, where it is one
+-- a want in the caller's terms: a send by the id and bytes of its message's frame
+abbrev pub caller_want : Head → Want Message → Wanted
+caller_want h Clock = Clock
+caller_want h (Send message) = Send (command (message_id h.motor_id message) (message_data h.motor_id h.limits message))
+caller_want h (Sleep length) = Sleep length
+
+-- 'Turned back', 3, for an answer that is a reading
 abbrev pub answer_accepted : Instant → Answer → Bool
 answer_accepted last (Reading t) = reading_accepted last t
 answer_accepted last (Sending result) = true
@@ -43,11 +48,11 @@ with_reading h Slept = h
 
 -- the next want, or the result, which closes the run
 abbrev pub stepped : Head → Stepped Machine Outcome → AnswerStep
-stepped h (Ok (Goes machine)) = record { told = Told.Want (caller_want h (machine_want machine)); head = h; run = Some machine }
-stepped h (Ok (Ends outcome)) = record { told = Told.Result (Ok outcome); head = h; run = None }
+stepped h (Ok (Continue machine)) = record { told = Told.Want (caller_want h (machine_want machine)); head = h; run = Some machine }
+stepped h (Ok (Break outcome)) = record { told = Told.Result (Ok outcome); head = h; run = None }
 stepped h (Err failure) = record { told = Told.Result (Err failure); head = h; run = None }
 
--- refused where another kind is wanted, then by its reading
+-- 'Turned back', an answer: 9 where another kind is wanted, then 3 by its reading
 abbrev pub machine_answer : Head → Entry → Machine → Answer → Result AnswerStep Refusal
 machine_answer h entry machine answer =
     cond (fits (machine_want machine) answer)

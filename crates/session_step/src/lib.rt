@@ -9,20 +9,15 @@ use motor_core::error::Refusal;
 use protocol_frame::Command;
 use run_machine::{Machine, Outcome, RunResult, machine_want};
 use run_step::machine_step;
-use run_want::message::{message_data, message_id};
-use run_want::step::{Step, Stepped};
-use run_want::{Answer, Want, fits};
+use run_want::message::{Message, message_data, message_id};
+use run_want::{Answer, Stepped, Want, fits};
 use session::Head;
 use state_cache::Entry;
-use time::{Duration, Instant, accepts_reading};
+use std::ops::ControlFlow;
+use time::{Instant, accepts_reading};
 
 // What the caller is to do next.
-#[derive(Clone, Copy)]
-pub enum Wanted {
-    Clock,
-    Send(Command),
-    Sleep(Duration),
-}
+pub type Wanted = Want<Command>;
 
 // What a start or an answer returns if it is not refused: what the run wants, or its result.
 #[derive(Clone, Copy)]
@@ -40,16 +35,16 @@ pub struct AnswerStep {
 }
 
 // A want in the caller's terms: a send by its frame.
-pub fn caller_want(head: Head, want: Want) -> Wanted
+pub fn caller_want(head: Head, want: Want<Message>) -> Wanted
     ensures { result ≡ Spec.caller_want head want }
 {
     match want {
-        Want::Clock => Wanted::Clock,
-        Want::Send(message) => Wanted::Send(Command {
+        Want::Clock => Want::Clock,
+        Want::Send(message) => Want::Send(Command {
             arbitration_id: message_id(head.motor_id, message),
             data: message_data(head.motor_id, head.limits, message),
         }),
-        Want::Sleep(length) => Wanted::Sleep(length),
+        Want::Sleep(length) => Want::Sleep(length),
     }
 }
 
@@ -75,11 +70,11 @@ fn stepped(head: Head, next: Stepped<Machine, Outcome>) -> AnswerStep
     ensures { result ≡ Spec.stepped head next }
 {
     let (told, run) = match next {
-        Ok(Step::Goes(machine)) => (
+        Ok(ControlFlow::Continue(machine)) => (
             Told::Want(caller_want(head, machine_want(machine))),
             Some(machine),
         ),
-        Ok(Step::Ends(outcome)) => (Told::Result(Ok(outcome)), None),
+        Ok(ControlFlow::Break(outcome)) => (Told::Result(Ok(outcome)), None),
         Err(failure) => (Told::Result(Err(failure)), None),
     };
     AnswerStep { told, head, run }

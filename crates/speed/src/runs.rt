@@ -8,8 +8,8 @@ use motor_core::error::Refusal;
 use protocol_frame::data_bytes;
 use registers::value_bits;
 use run_machine::{Outcome, RunResult};
-use run_want::Answer;
-use session::Session;
+use run_want::{Answer, Want};
+use session::{After, Session};
 use session_answer::{AfterCall, answer_run};
 use session_begin::{ensure_control_mode, get_register_u32, write_register_u32};
 use session_lent::take_frame;
@@ -74,9 +74,9 @@ fn result_number(res: RunResult) -> u64 {
 
 fn want_total(sum: u64, want: Wanted) -> u64 {
     match want {
-        Wanted::Clock => sum,
-        Wanted::Send(command) => mixed(mixed(sum, u64::from(command.arbitration_id)), command.data),
-        Wanted::Sleep(length) => mixed(sum, length.0),
+        Want::Clock => sum,
+        Want::Send(command) => mixed(mixed(sum, u64::from(command.arbitration_id)), command.data),
+        Want::Sleep(length) => mixed(sum, length.0),
     }
 }
 
@@ -118,9 +118,9 @@ fn slept(line: Line, length: Duration) -> Line {
 // Does what is wanted, if anything is, and says so.
 fn answered(line: Line) -> Line {
     match line.turn.told {
-        Ok(Told::Want(Wanted::Clock)) => clock_read(line),
-        Ok(Told::Want(Wanted::Send(command))) => sent(line, command.data),
-        Ok(Told::Want(Wanted::Sleep(length))) => slept(line, length),
+        Ok(Told::Want(Want::Clock)) => clock_read(line),
+        Ok(Told::Want(Want::Send(command))) => sent(line, command.data),
+        Ok(Told::Want(Want::Sleep(length))) => slept(line, length),
         _ => line,
     }
 }
@@ -170,9 +170,9 @@ fn after_runs(kind: Kind, mut line: Line, frames: &[[u8; 8]]) -> Line {
 // The motor is in mode 1.
 fn at_first(session: Session) -> Line {
     Line {
-        turn: AfterCall {
+        turn: After {
             session,
-            told: Ok(Told::Want(Wanted::Clock)),
+            told: Ok(Told::Want(Want::Clock)),
         },
         value: 1,
         now: Instant(0),

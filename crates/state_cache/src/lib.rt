@@ -16,12 +16,23 @@ pub enum Entry {
     Held(RegisterValue, Instant),
 }
 
-// The one slot that a run looks at: a register's among the replies, or among the acks.
+// A register's slot among the replies, or among the acks.
 #[derive(Clone, Copy)]
 pub enum Place {
-    Nowhere,
     Reply(u8),
     Ack(u8),
+}
+
+impl Entry {
+    // The value that it holds.
+    pub fn value(self) -> Option<RegisterValue>
+        ensures { result ≡ Spec.value_in self }
+    {
+        match self {
+            Entry::Empty => None,
+            Entry::Held(value, _) => Some(value),
+        }
+    }
 }
 
 // Where a register's slot stands; for a number from 82 on, which has none, 0. The test is there for the
@@ -33,13 +44,19 @@ pub fn slot_place(rid: u8) -> usize
     if rid < 82 { rid as usize } else { 0 }
 }
 
+// What is in a register's slot; for a number from 82 on nothing.
+pub fn slot_of(slots: &[Entry; 82], rid: u8) -> Entry
+    ensures { result ≡ Spec.slot_of slots.now rid }
+{
+    slots.get(usize::from(rid)).copied().unwrap_or(Entry::Empty)
+}
+
 // A register's entry among a session's replies, or among its acks.
-#[tactic(auto, using(registers::proofs::Below::known_below))]
 pub fn cached_entry(slots: [Entry; 82], rid: u8) -> Result<Entry, Refusal>
     ensures { result ≡ Spec.cached_entry slots rid }
 {
     if !registers::is_known(rid) {
         return Err(Refusal::Register);
     }
-    Ok(slots[rid as usize])
+    Ok(slot_of(&slots, rid))
 }

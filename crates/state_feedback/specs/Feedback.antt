@@ -1,4 +1,4 @@
--- The latest feedback. Definitions only.
+-- The latest feedback: document 01's 'The feedback on the screen', its last rule. Definitions only.
 use Rattle.std.specs.Prelude.{ℕ, ◌+◌, ◌-◌, ◌^◌, min, Option, Some, None, option_map}
 use Rattle.time.specs.declared.Instant.{Instant}
 use Rattle.float.specs.Arithmetic.{float}

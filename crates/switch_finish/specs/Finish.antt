@@ -1,9 +1,8 @@
 -- `finish_mode_switch`: the hold frame after a write of the mode. Definitions only.
-use Rattle.std.specs.Prelude.{Option, Some, None, Result, Ok, Err}
+use Rattle.std.specs.Prelude.{Option, Some, None}
 use Rattle.float.specs.declared.F32Bits.{F32Bits}
 use Rattle.protocol_hold.specs.declared.ControlMode.{ControlMode}
 use Rattle.protocol_hold.specs.declared.ControlMode.TheVariants.{Mit, PosVel, Vel, ForcePos}
-use Rattle.run_want.specs.declared.Failure.{Failure}
 use Rattle.switch_finish.specs.declared.Finishing.{Finishing}
 use Rattle.switch_finish.specs.declared.Finishing.TheVariants.{Holds, Done}
 
@@ -17,8 +16,3 @@ finish Mit position = Holds
 finish PosVel position = finish_at position
 finish Vel position = Holds
 finish ForcePos position = finish_at position
-
--- a hold frame that is not sent ends the switch
-abbrev pub held : Result (Unit {0}) Failure → Result Finishing Failure
-held (Ok sent) = Ok Done
-held (Err failure) = Err failure

@@ -6,7 +6,6 @@ ghost use Rattle.switch_finish.specs.Finish as Spec;
 
 use float::F32Bits;
 use protocol_hold::ControlMode;
-use run_want::Failure;
 
 // A hold frame is wanted, or the switch goes on to verify.
 // As a flag it would say neither.
@@ -25,12 +24,4 @@ pub fn finish(mode: ControlMode, position: Option<F32Bits>) -> Finishing
         (ControlMode::PosVel | ControlMode::ForcePos, Some(_)) => Finishing::Holds,
         (ControlMode::PosVel | ControlMode::ForcePos, None) => Finishing::Done,
     }
-}
-
-// By how its send went.
-pub fn held(sent: Result<(), Failure>) -> Result<Finishing, Failure>
-    ensures { result ≡ Spec.held sent }
-{
-    sent?;
-    Ok(Finishing::Done)
 }

@@ -8,30 +8,31 @@ use float::F32Bits;
 use protocol_hold::ControlMode;
 use registers::{RegisterValue, value_bits};
 use run_wait::ask::Ask;
-use run_want::step::{Step, Stepped};
+use run_want::Stepped;
+use std::ops::ControlFlow;
 use switch_stage::{Progress, Stage};
 use switch_time::{capped_remaining, hold_read_cap};
 use time::{Duration, Instant};
 
 // The preparation goes on, or it is over and the mode can be written.
-pub type Prepare = Step<(Progress, Stage), Progress>;
+pub type Prepare = ControlFlow<Progress, (Progress, Stage)>;
 
 fn read_position(progress: Progress) -> Prepare
     ensures { result ≡ Spec.read_position progress }
 {
-    Step::Goes((progress, Stage::HoldRemaining))
+    ControlFlow::Continue((progress, Stage::HoldRemaining))
 }
 
 fn reading_position(progress: Progress, length: Duration, ask: Ask) -> Prepare
     ensures { result ≡ Spec.reading_position progress length ask }
 {
-    Step::Goes((progress, Stage::HoldReading(length, ask)))
+    ControlFlow::Continue((progress, Stage::HoldReading(length, ask)))
 }
 
 fn clear(progress: Progress, channel: ControlMode) -> Prepare
     ensures { result ≡ Spec.clear progress channel }
 {
-    Step::Goes((progress, Stage::Clearing(channel)))
+    ControlFlow::Continue((progress, Stage::Clearing(channel)))
 }
 
 // The position to hold is read, but for the velocity mode.
@@ -63,8 +64,8 @@ pub fn after_hold_read(
     ensures { result ≡ Spec.after_hold_read progress length next }
 {
     match next {
-        Ok(Step::Goes(ask)) => reading_position(progress, length, ask),
-        Ok(Step::Ends(value)) => {
+        Ok(ControlFlow::Continue(ask)) => reading_position(progress, length, ask),
+        Ok(ControlFlow::Break(value)) => {
             let hold_position = Some(F32Bits(value_bits(value)));
             clear(
                 Progress {
@@ -86,6 +87,6 @@ pub fn cleared(channel: ControlMode, progress: Progress) -> Prepare
         ControlMode::Vel => clear(progress, ControlMode::PosVel),
         ControlMode::PosVel => clear(progress, ControlMode::ForcePos),
         ControlMode::ForcePos => clear(progress, ControlMode::Mit),
-        ControlMode::Mit => Step::Ends(progress),
+        ControlMode::Mit => ControlFlow::Break(progress),
     }
 }

@@ -1,11 +1,11 @@
 -- The stages of a mode switch: what a switch keeps, what it wants and where it looks. Definitions only.
-use Rattle.std.specs.Prelude.{unwrap_or}
+use Rattle.std.specs.Prelude.{Option, Some, None, unwrap_or}
 use Rattle.registers.specs.declared.RegisterValue.{RegisterValue}
 use Rattle.registers.specs.declared.RegisterValue.TheVariants as Value
 use Rattle.protocol_hold.specs.Mode.{mode_number}
 use Rattle.protocol_hold.specs.declared.ControlMode.{ControlMode}
 use Rattle.state_cache.specs.declared.Place.{Place}
-use Rattle.state_cache.specs.declared.Place.TheVariants.{Nowhere, Reply, Ack}
+use Rattle.state_cache.specs.declared.Place.TheVariants.{Reply, Ack}
 use Rattle.run_want.specs.declared.Want.{Want}
 use Rattle.run_want.specs.declared.Want.TheVariants.{Clock, Send, Sleep}
 use Rattle.run_want.specs.declared.message.Message.{Message}
@@ -29,7 +29,7 @@ hold_message mode p = Setpoint mode (unwrap_or p.hold_position (record { 0 = 0 }
 
 -- ---- what each stage wants and where it looks
 
-abbrev pub stage_want : ControlMode → Progress → Stage → Want
+abbrev pub stage_want : ControlMode → Progress → Stage → Want Message
 stage_want mode p (Remaining which) = Clock
 stage_want mode p (Reading which length ask) = read_want 10 ask
 stage_want mode p HoldRemaining = Clock
@@ -40,23 +40,23 @@ stage_want mode p (SettleRemaining verifies_left) = Clock
 stage_want mode p (SettleSleep verifies_left length) = Sleep length
 stage_want mode p (Holding verifies_left) = Send (hold_message mode p)
 
-abbrev pub switch_want : ControlMode → Switch → Want
+abbrev pub switch_want : ControlMode → Switch → Want Message
 switch_want mode Starting = Clock
 switch_want mode (Begun p stage) = stage_want mode p stage
 
-abbrev pub stage_place : Stage → Place
-stage_place (Remaining which) = Nowhere
-stage_place (Reading which length ask) = Reply 10
-stage_place HoldRemaining = Nowhere
-stage_place (HoldReading length ask) = Reply 80
-stage_place (Clearing channel) = Nowhere
-stage_place (Writing verifies_left write) = Ack 10
-stage_place (SettleRemaining verifies_left) = Nowhere
-stage_place (SettleSleep verifies_left length) = Nowhere
-stage_place (Holding verifies_left) = Nowhere
+abbrev pub stage_place : Stage → Option Place
+stage_place (Remaining which) = None
+stage_place (Reading which length ask) = Some (Reply 10)
+stage_place HoldRemaining = None
+stage_place (HoldReading length ask) = Some (Reply 80)
+stage_place (Clearing channel) = None
+stage_place (Writing verifies_left write) = Some (Ack 10)
+stage_place (SettleRemaining verifies_left) = None
+stage_place (SettleSleep verifies_left length) = None
+stage_place (Holding verifies_left) = None
 
-abbrev pub switch_place : Switch → Place
-switch_place Starting = Nowhere
+abbrev pub switch_place : Switch → Option Place
+switch_place Starting = None
 switch_place (Begun p stage) = stage_place stage
 
 -- on to a stage

@@ -11,10 +11,10 @@ use registers::RegisterValue;
 use run_read::read_want;
 use run_wait::ask::Ask;
 use run_want::message::Message;
-use run_want::step::{Step, Stepped};
-use run_want::{Failure, Want};
+use run_want::{Failure, Stepped, Want};
 use run_write::{Write, write_want};
 use state_cache::Place;
+use std::ops::ControlFlow;
 use time::{Duration, Instant};
 
 const MODE_REGISTER: u8 = 10;
@@ -73,7 +73,7 @@ pub fn mode_value(mode: ControlMode) -> RegisterValue
     RegisterValue::UInt32(u32::from(mode))
 }
 
-fn stage_want(mode: ControlMode, progress: Progress, stage: Stage) -> Want
+fn stage_want(mode: ControlMode, progress: Progress, stage: Stage) -> Want<Message>
     ensures { result ≡ Spec.stage_want mode progress stage }
 {
     match stage {
@@ -89,7 +89,7 @@ fn stage_want(mode: ControlMode, progress: Progress, stage: Stage) -> Want
     }
 }
 
-pub fn switch_want(mode: ControlMode, switch: Switch) -> Want
+pub fn switch_want(mode: ControlMode, switch: Switch) -> Want<Message>
     ensures { result ≡ Spec.switch_want mode switch }
 {
     match switch {
@@ -98,27 +98,27 @@ pub fn switch_want(mode: ControlMode, switch: Switch) -> Want
     }
 }
 
-fn stage_place(stage: Stage) -> Place
+fn stage_place(stage: Stage) -> Option<Place>
     ensures { result ≡ Spec.stage_place stage }
 {
     match stage {
-        Stage::Reading(_, _, _) => Place::Reply(MODE_REGISTER),
-        Stage::HoldReading(_, _) => Place::Reply(POSITION_REGISTER),
-        Stage::Writing(_, _) => Place::Ack(MODE_REGISTER),
+        Stage::Reading(_, _, _) => Some(Place::Reply(MODE_REGISTER)),
+        Stage::HoldReading(_, _) => Some(Place::Reply(POSITION_REGISTER)),
+        Stage::Writing(_, _) => Some(Place::Ack(MODE_REGISTER)),
         Stage::Remaining(_)
         | Stage::HoldRemaining
         | Stage::Clearing(_)
         | Stage::SettleRemaining(_)
         | Stage::SettleSleep(_, _)
-        | Stage::Holding(_) => Place::Nowhere,
+        | Stage::Holding(_) => None,
     }
 }
 
-pub fn switch_place(switch: Switch) -> Place
+pub fn switch_place(switch: Switch) -> Option<Place>
     ensures { result ≡ Spec.switch_place switch }
 {
     match switch {
-        Switch::Starting => Place::Nowhere,
+        Switch::Starting => None,
         Switch::Begun(_, stage) => stage_place(stage),
     }
 }
@@ -127,5 +127,5 @@ pub fn switch_place(switch: Switch) -> Place
 pub fn goes(progress: Progress, stage: Stage) -> Stepped<Switch, ()>
     ensures { result ≡ Spec.goes progress stage }
 {
-    Ok(Step::Goes(Switch::Begun(progress, stage)))
+    Ok(ControlFlow::Continue(Switch::Begun(progress, stage)))
 }

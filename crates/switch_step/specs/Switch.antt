@@ -1,4 +1,4 @@
--- The mode switch, `ensure_control_mode`. Definitions only.
+-- The mode switch, `ensure_control_mode`: document 01's 'The runs'. Definitions only.
 use Rattle.std.specs.Prelude.{zero, suc, cond, Option, Some, None, Ok, Err}
 use Rattle.motor_core.specs.Outcome.{and_then}
 use Rattle.time.specs.declared.Instant.{Instant}
@@ -15,7 +15,7 @@ use Rattle.run_wait.specs.declared.ask.Ask.{Ask}
 use Rattle.run_wait.specs.declared.ask.Ask.TheVariants.{Opening}
 use Rattle.run_read.specs.Read.{get_step}
 use Rattle.run_want.specs.Step.{Stepped, ends}
-use Rattle.run_want.specs.declared.step.Step.TheVariants.{Goes, Ends}
+use Rattle.std.specs.declared.ops.ControlFlow.TheVariants.{Continue, Break}
 use Rattle.run_write.specs.Write.{write_step}
 use Rattle.switch_time.specs.TimeLeft.{mode_read_cap, deadline_after, capped_remaining}
 use Rattle.switch_stage.specs.declared.Progress.{Progress}
@@ -27,7 +27,7 @@ use Rattle.switch_stage.specs.declared.Switch.{Switch}
 use Rattle.switch_stage.specs.declared.Switch.TheVariants.{Starting, Begun}
 use Rattle.switch_stage.specs.Stage.{mode_value, goes}
 use Rattle.switch_prepare.specs.Prepare.{prepare, hold_time, after_hold_read, cleared}
-use Rattle.switch_finish.specs.Finish.{held}
+use Rattle.switch_finish.specs.declared.Finishing.TheVariants.{Done}
 use Rattle.switch_write.specs.WriteMode.{write_mode, after_prepare, after_mode_write, after_finish, slept, settle_sleep}
 
 -- ---- what a switch keeps
@@ -68,8 +68,8 @@ mode_unread mode which p Failure.WrongType = Err Failure.WrongType
 mode_unread mode which p Failure.SendFailed = Err Failure.SendFailed
 
 abbrev pub after_mode_read : ControlMode → ModeRead → Progress → Duration → Stepped Ask RegisterValue → Stepped Switch (Unit {0})
-after_mode_read mode which p length (Ok (Goes ask)) = reads_mode which p length ask
-after_mode_read mode which p length (Ok (Ends value)) = mode_got mode which p value
+after_mode_read mode which p length (Ok (Continue ask)) = reads_mode which p length ask
+after_mode_read mode which p length (Ok (Break value)) = mode_got mode which p value
 after_mode_read mode which p length (Err failure) = mode_unread mode which p failure
 
 -- past the deadline no read is tried
@@ -92,7 +92,7 @@ stage_step mode timeout entry p (Clearing channel) answer = after_prepare (clear
 stage_step mode timeout entry p (Writing verifies_left write) answer = after_mode_write verifies_left p (write_step (mode_value mode) entry write answer)
 stage_step mode timeout entry p (SettleRemaining verifies_left) answer = settle_sleep mode timeout verifies_left p (reading_of answer)
 stage_step mode timeout entry p (SettleSleep verifies_left length) answer = slept mode verifies_left p
-stage_step mode timeout entry p (Holding verifies_left) answer = and_then (held (send_outcome answer)) (after_finish verifies_left p)
+stage_step mode timeout entry p (Holding verifies_left) answer = and_then (send_outcome answer) (λ sent. after_finish verifies_left p Done)
 
 -- the first reading sets the deadline
 abbrev pub switch_step : ControlMode → Duration → Entry → Switch → Answer → Stepped Switch (Unit {0})

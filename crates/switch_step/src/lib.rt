@@ -8,11 +8,11 @@ use protocol_hold::ControlMode;
 use registers::{RegisterDataType, RegisterValue, register_value_matches};
 use run_read::get_step;
 use run_wait::ask::Ask;
-use run_want::step::{Step, Stepped};
-use run_want::{Answer, Failure, reading_of, send_outcome};
+use run_want::{Answer, Failure, Stepped, reading_of, send_outcome};
 use run_write::write_step;
 use state_cache::Entry;
-use switch_finish::held;
+use std::ops::ControlFlow;
+use switch_finish::Finishing;
 use switch_prepare::{after_hold_read, cleared, hold_time, prepare};
 use switch_stage::{ModeRead, Progress, Stage, Switch, goes, mode_value};
 use switch_time::{capped_remaining, deadline_after, mode_read_cap};
@@ -75,9 +75,11 @@ fn after_mode_read(
     ensures { result ≡ Spec.after_mode_read mode which progress length next }
 {
     match next {
-        Ok(Step::Goes(ask)) => reads_mode(which, progress, length, ask),
-        Ok(Step::Ends(got)) if register_value_matches(got, mode_value(mode)) => Ok(Step::Ends(())),
-        Ok(Step::Ends(got)) => not_yet(mode, which, progress, Failure::Mismatch(got)),
+        Ok(ControlFlow::Continue(ask)) => reads_mode(which, progress, length, ask),
+        Ok(ControlFlow::Break(got)) if register_value_matches(got, mode_value(mode)) => Ok(
+            ControlFlow::Break(()),
+        ),
+        Ok(ControlFlow::Break(got)) => not_yet(mode, which, progress, Failure::Mismatch(got)),
         Err(Failure::Timeout) => not_yet(mode, which, progress, Failure::Timeout),
         Err(failure) => Err(failure),
     }
@@ -138,11 +140,10 @@ fn stage_step(
             reading_of(answer),
         ),
         Stage::SettleSleep(verifies_left, _) => slept(mode, verifies_left, progress),
-        Stage::Holding(verifies_left) => after_finish(
-            verifies_left,
-            progress,
-            held(send_outcome(answer))?,
-        ),
+        Stage::Holding(verifies_left) => {
+            send_outcome(answer)?;
+            after_finish(verifies_left, progress, Finishing::Done)
+        }
     }
 }
 

@@ -1,4 +1,4 @@
--- The time that a switch has for its parts. Definitions only.
+-- The time that a switch has for its parts: document 01's 'The runs'. Definitions only.
 use Rattle.std.specs.Prelude.{ℕ, ◌+◌, ◌-◌, ◌/◌, ◌^◌, min, max, cond, leb, Option, Some, None, option_map, option_and_then}
 use Rattle.time.specs.Time.{millis}
 use Rattle.time.specs.declared.Instant.{Instant}

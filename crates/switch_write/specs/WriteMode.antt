@@ -1,4 +1,4 @@
--- `ensure_control_mode` around its writes of the mode. Definitions only.
+-- `ensure_control_mode` around its writes of the mode: document 01's 'The runs'. Definitions only.
 use Rattle.std.specs.Prelude.{ℕ, Option, Some, None, Ok, Err}
 use Rattle.time.specs.declared.Instant.{Instant}
 use Rattle.time.specs.declared.Duration.{Duration}
@@ -6,7 +6,7 @@ use Rattle.protocol_hold.specs.declared.ControlMode.{ControlMode}
 use Rattle.run_write.specs.Write.{first_try}
 use Rattle.run_write.specs.declared.Write.{Write}
 use Rattle.run_want.specs.Step.{Stepped}
-use Rattle.run_want.specs.declared.step.Step.TheVariants.{Goes, Ends}
+use Rattle.std.specs.declared.ops.ControlFlow.TheVariants.{Continue, Break}
 use Rattle.switch_time.specs.TimeLeft.{mode_read_cap, sleep_up_to_reserving}
 use Rattle.switch_stage.specs.Stage.{goes}
 use Rattle.switch_stage.specs.declared.ModeRead.TheVariants.{Verify}
@@ -24,13 +24,13 @@ write_mode verifies_left p = goes p (Writing verifies_left first_try)
 
 -- after the preparation the first write, with three verifying reads
 abbrev pub after_prepare : Prepare → Stepped Switch (Unit {0})
-after_prepare (Goes at) = goes at.0 at.1
-after_prepare (Ends p) = write_mode 2 p
+after_prepare (Continue at) = goes at.0 at.1
+after_prepare (Break p) = write_mode 2 p
 
 -- a write that fails ends the switch; after an acked one comes the settling sleep
 abbrev pub after_mode_write : ℕ → Progress → Stepped Write (Unit {0}) → Stepped Switch (Unit {0})
-after_mode_write verifies_left p (Ok (Goes write)) = goes p (Writing verifies_left write)
-after_mode_write verifies_left p (Ok (Ends written)) = goes p (SettleRemaining verifies_left)
+after_mode_write verifies_left p (Ok (Continue write)) = goes p (Writing verifies_left write)
+after_mode_write verifies_left p (Ok (Break written)) = goes p (SettleRemaining verifies_left)
 after_mode_write verifies_left p (Err failure) = Err failure
 
 -- the hold frame, if there is one, comes before the verifying read

@@ -6,8 +6,9 @@ ghost use Rattle.std.specs.Prelude.{◌≡◌};
 ghost use Rattle.switch_write.specs.WriteMode as Spec;
 
 use protocol_hold::ControlMode;
-use run_want::step::{Step, Stepped};
+use run_want::Stepped;
 use run_write::{Write, first_try};
+use std::ops::ControlFlow;
 use switch_finish::{Finishing, finish};
 use switch_prepare::Prepare;
 use switch_stage::{ModeRead, Progress, Stage, Switch, goes};
@@ -27,8 +28,8 @@ pub fn after_prepare(next: Prepare) -> Stepped<Switch, ()>
     ensures { result ≡ Spec.after_prepare next }
 {
     match next {
-        Step::Goes((progress, stage)) => goes(progress, stage),
-        Step::Ends(progress) => write_mode(ENSURE_MODE_VERIFY_ATTEMPTS - 1, progress),
+        ControlFlow::Continue((progress, stage)) => goes(progress, stage),
+        ControlFlow::Break(progress) => write_mode(ENSURE_MODE_VERIFY_ATTEMPTS - 1, progress),
     }
 }
 
@@ -41,8 +42,8 @@ pub fn after_mode_write(
     ensures { result ≡ Spec.after_mode_write verifies_left progress next }
 {
     match next? {
-        Step::Goes(write) => goes(progress, Stage::Writing(verifies_left, write)),
-        Step::Ends(()) => goes(progress, Stage::SettleRemaining(verifies_left)),
+        ControlFlow::Continue(write) => goes(progress, Stage::Writing(verifies_left, write)),
+        ControlFlow::Break(()) => goes(progress, Stage::SettleRemaining(verifies_left)),
     }
 }
 

@@ -2,29 +2,24 @@
 use mathlib.Core.Path.{ap, ◌∙◌}
 use Prim.Native.Nat.{ℕ}
 use lib.ListN.{set}
+use Rattle.std.specs.Prelude.{Some, None}
+use Rattle.state_cache.specs.declared.Place.{Place}
+use Rattle.state_cache.specs.declared.Place.TheVariants.{Reply, Ack}
 use Rattle.session.specs.Session.{with_head, with_replies, with_acks}
-use Rattle.session_frame.specs.declared.Kept.TheVariants.{Nothing, Reply, Ack}
-use Rattle.session_lent.proofs.ByParts.{taken_outcome, taken_session}
+use Rattle.session_lent.proofs.ByParts.{taken_session}
 use Rattle.session_lent.proofs.process_feedback_frame.Goals as goal
 
-pub returns-in-Nothing-clause-outcome : goal.returns-in-Nothing-clause-outcome
-returns-in-Nothing-clause-outcome c = taken_outcome _ _ _ _ c.frame_step.ensures _ c.in_ok-step.was
-
-pub returns-in-Nothing-clause-session : goal.returns-in-Nothing-clause-session
-returns-in-Nothing-clause-session c = taken_session _ _ _ _ c.frame_step.ensures _ Nothing c.in_ok-step.was c.in-Nothing.is
-
-pub returns-in-Reply-clause-outcome : goal.returns-in-Reply-clause-outcome
-returns-in-Reply-clause-outcome c = taken_outcome _ _ _ _ c.frame_step.ensures _ c.in_ok-step.was
+pub returns-in_default-clause-session : goal.returns-in_default-clause-session
+returns-in_default-clause-session c = taken_session _ _ _ _ c.frame_step.ensures _ None c.in_ok-step.was c.in_default.is
 
 pub returns-in-Reply-clause-session : goal.returns-in-Reply-clause-session
-returns-in-Reply-clause-session c = let s = c.args.session.now in
-    ap (λ (p : ℕ). with_replies (with_head s c.in_ok-step.step.head) (set s.replies p c.in-Reply.entry)) c.slot_place.ensures
-    ∙ taken_session _ _ _ _ c.frame_step.ensures _ (Reply c.in-Reply.rid c.in-Reply.entry) c.in_ok-step.was c.in-Reply.is
-
-pub returns-in-Ack-clause-outcome : goal.returns-in-Ack-clause-outcome
-returns-in-Ack-clause-outcome c = taken_outcome _ _ _ _ c.frame_step.ensures _ c.in_ok-step.was
+returns-in-Reply-clause-session c =
+    let s = c.args.session.now in
+    ap (λ (p : ℕ). with_replies (with_head s c.in_ok-step.step.head) (set s.replies p c.in-Some.entry)) c.slot_place.ensures
+    ∙ taken_session _ _ _ _ c.frame_step.ensures _ (Some (Reply c.in-Reply.rid, c.in-Some.entry)) c.in_ok-step.was (c.in-Some.is ∙ ap (λ (p : Place). Some (p, c.in-Some.entry)) c.in-Reply.is)
 
 pub returns-in-Ack-clause-session : goal.returns-in-Ack-clause-session
-returns-in-Ack-clause-session c = let s = c.args.session.now in
-    ap (λ (p : ℕ). with_acks (with_head s c.in_ok-step.step.head) (set s.acks p c.in-Ack.entry)) c.slot_place-in-Ack.ensures
-    ∙ taken_session _ _ _ _ c.frame_step.ensures _ (Ack c.in-Ack.rid c.in-Ack.entry) c.in_ok-step.was c.in-Ack.is
+returns-in-Ack-clause-session c =
+    let s = c.args.session.now in
+    ap (λ (p : ℕ). with_acks (with_head s c.in_ok-step.step.head) (set s.acks p c.in-Some.entry)) c.slot_place-in-Ack.ensures
+    ∙ taken_session _ _ _ _ c.frame_step.ensures _ (Some (Ack c.in-Ack.rid, c.in-Some.entry)) c.in_ok-step.was (c.in-Some.is ∙ ap (λ (p : Place). Some (p, c.in-Some.entry)) c.in-Ack.is)
