@@ -8,6 +8,7 @@ use motor_core::model::PvTLimits;
 use protocol_feedback::{SensorFeedback, decode_sensor_feedback};
 use registers::{RegisterDataType, RegisterInfo, RegisterValue};
 
+// As a `Received` of nothing a class would be `Reply(())`.
 #[derive(Clone, Copy)]
 pub enum FrameClass {
     Reply,

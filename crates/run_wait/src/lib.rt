@@ -23,6 +23,7 @@ pub enum Wait {
 }
 
 // The wait goes on, or it is time for a look at what came since the opening, or the deadline is past.
+// As a `ControlFlow` of an `Option` a look and being late would have no names.
 #[derive(Clone, Copy)]
 pub enum Waited<S> {
     Goes(S),

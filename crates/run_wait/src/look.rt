@@ -6,7 +6,7 @@ use state_cache::Entry;
 use state_feedback::FeedbackSnapshot;
 use time::Instant;
 
-// The entry if it is fresh.
+// The entry if it is fresh. An entry is no `Option`, which has a `filter`.
 pub fn fresh_entry(opening: Instant, entry: Entry) -> Entry
     ensures { result ≡ Spec.fresh_entry opening entry }
 {

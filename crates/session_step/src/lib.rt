@@ -19,7 +19,8 @@ use time::{Instant, accepts_reading};
 // What the caller is to do next.
 pub type Wanted = Want<Command>;
 
-// What a start or an answer returns if it is not refused: what the run wants, or its result.
+// What a start or an answer returns if it is not refused: what the run wants, or its result. As a
+// `ControlFlow` a result would be a `Break`, though the call that returns it did not break off.
 #[derive(Clone, Copy)]
 pub enum Told {
     Want(Wanted),
