@@ -31,24 +31,23 @@ fn entry_at(session: &Session, place: Option<Place>) -> Entry
     }
 }
 
-// Answers what the session's run wants.
+// Answers what the run of the session that is lent wants.
 #[tactic(auto, unfolding(crate::specs::Answer::answer_run))]
+fn answer_lent(session: &mut Session, answer: Answer) -> Result<Told, Refusal>
+    ensures told { result ≡ (Spec.answer_run session.old answer).told }
+    ensures session { session.new ≡ (Spec.answer_run session.old answer).session }
+{
+    let entry = entry_at(session, run_place(session.run));
+    let step = answer_step(session.head, entry, session.run, answer)?;
+    session.head = step.head;
+    session.run = step.run;
+    Ok(step.told)
+}
+
+// The same for a session that goes by value: it is lent for the answer and handed back.
 pub fn answer_run(mut session: Session, answer: Answer) -> AfterCall
     ensures { result ≡ Spec.answer_run session answer }
 {
-    let entry = entry_at(&session, run_place(session.run));
-    match answer_step(session.head, entry, session.run, answer) {
-        Ok(step) => {
-            session.head = step.head;
-            session.run = step.run;
-            After {
-                session,
-                told: Ok(step.told),
-            }
-        }
-        Err(refusal) => After {
-            session,
-            told: Err(refusal),
-        },
-    }
+    let told = answer_lent(&mut session, answer);
+    After { session, told }
 }

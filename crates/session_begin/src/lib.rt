@@ -25,22 +25,22 @@ fn start_step(run: Option<Machine>, start: Result<Machine, Refusal>) -> Result<M
     start
 }
 
+// Opens a run in the session that is lent.
+fn begin_lent(session: &mut Session, start: Result<Machine, Refusal>) -> Result<Told, Refusal>
+    ensures told { result ≡ (Spec.begin session.old start).told }
+    ensures session { session.new ≡ (Spec.begin session.old start).session }
+{
+    let machine = start_step(session.run, start)?;
+    session.run = Some(machine);
+    Ok(Told::Want(caller_want(session.head, machine_want(machine))))
+}
+
+// The same for a session that goes by value: it is lent for the start and handed back.
 fn begin(mut session: Session, start: Result<Machine, Refusal>) -> AfterCall
     ensures { result ≡ Spec.begin session start }
 {
-    match start_step(session.run, start) {
-        Ok(machine) => {
-            session.run = Some(machine);
-            After {
-                session,
-                told: Ok(Told::Want(caller_want(session.head, machine_want(machine)))),
-            }
-        }
-        Err(refusal) => After {
-            session,
-            told: Err(refusal),
-        },
-    }
+    let told = begin_lent(&mut session, start);
+    After { session, told }
 }
 
 // Reads a register that holds a whole number; refused where a run is open, the register is unknown or the
