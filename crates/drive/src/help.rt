@@ -3,7 +3,7 @@ use crate::page::Page;
 use script::CallName;
 
 // A line for each call, in the order of their names.
-const CALLS: [&[u8]; 36] = [
+static CALLS: [&[u8]; 36] = [
     b"start-limits MOTOR FEEDBACK P V T",
     b"start-model NAME MOTOR FEEDBACK",
     b"get-u32 RID TIMEOUT",

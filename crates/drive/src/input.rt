@@ -2,30 +2,18 @@
 ghost use Rattle.std.specs.Prelude.{◌≤◌, ◌<◌, length};
 
 use crate::BUFFER;
-use script::{Call, Fault, MAX_LINE};
+use script::MAX_LINE;
 use std::io::{Print, Read};
-use std::mem;
 
-// A line without its newline, and its number, from 1 on. Of a line that is too long the text is a
-// rest.
+// A line without its newline, and its number, from 1 on. Of a line that is too long the text may lack
+// bytes, and is too long too.
 #[derive(Clone, Copy)]
 pub(crate) struct Line<'a> {
     pub(crate) text: &'a [u8],
     pub(crate) number: u64,
-    is_long: bool,
 }
 
-impl Line<'_> {
-    pub(crate) fn call(&self) -> Result<Option<Call>, Fault> {
-        if self.is_long {
-            return Err(Fault::LongLine);
-        }
-        script::parse(self.text)
-    }
-}
-
-// The bytes that are read and not taken lie from `next` to `filled`. They may begin in the midst of a
-// line that is too long.
+// The bytes that are read and not taken lie from `next` to `filled`.
 #[derive(Drop)]
 pub(crate) struct Input {
     bytes: [u8; BUFFER],
@@ -33,7 +21,6 @@ pub(crate) struct Input {
     filled: usize,
     ghost ordered: { next ≤ filled },
     ghost within: { filled ≤ length bytes },
-    is_rest_long: bool,
     is_over: bool,
     lines: u64,
 }
@@ -44,7 +31,6 @@ impl Input {
             bytes: [0; BUFFER],
             next: 0,
             filled: 0,
-            is_rest_long: false,
             is_over: false,
             lines: 0,
         }
@@ -61,13 +47,11 @@ impl Input {
         let length = self.bytes[from..self.filled]
             .iter()
             .position(|byte| *byte == b'\n')?;
-        let is_long = mem::take(&mut self.is_rest_long);
         self.next += length + 1;
         self.lines = self.lines.wrapping_add(1);
         Some(Line {
             text: &self.bytes[from..from + length],
             number: self.lines,
-            is_long,
         })
     }
 
@@ -90,19 +74,14 @@ impl Input {
         }
     }
 
-    // Moves the unfinished line to the front, or drops it where it is too long.
+    // Moves the unfinished line to the front; of one that is too long so many bytes that it still is.
     fn keep_rest(&mut self)
         ensures { self.new.filled < length self.new.bytes }
     {
-        let length = self.filled - self.next;
-        if self.is_rest_long || length > MAX_LINE {
-            self.is_rest_long = true;
-            self.filled = 0;
-        } else {
-            self.bytes.copy_within(self.next..self.filled, 0);
-            self.filled = length;
-        }
+        let length = (self.filled - self.next).min(MAX_LINE + 1);
+        self.bytes.copy_within(self.next..self.next + length, 0);
         self.next = 0;
+        self.filled = length;
     }
 }
 

@@ -42,7 +42,7 @@ pub(crate) fn run(stdin: &mut impl Read, stdout: &impl Print, stderr: &impl Prin
 
 // A call's answer, and why a line is bad.
 fn answer_line(answers: &mut Page, notes: &mut Page, session: &mut Option<Session>, line: Line) {
-    match line.call() {
+    match script::parse(line.text) {
         Ok(Some(call)) => {
             if let Err(refusal) = answer(answers, session, call, line.text) {
                 answers.put_refused(refusal);

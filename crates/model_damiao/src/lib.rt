@@ -9,7 +9,7 @@ use motor_core::model::Maxima;
 use motor_core::name::Name;
 
 // A name, padded to fifteen bytes, its length, and the maxima of position, velocity and torque.
-// Padded by hand: a constant calls no function.
+// Padded by hand: a static calls no function.
 macro_rules! model {
     ($name:literal, $len:literal, $p_max:literal, $v_max:literal, $t_max:literal) => {
         MotorModelSpec {
@@ -26,7 +26,7 @@ macro_rules! model {
     };
 }
 
-const DAMIAO_MODELS: [MotorModelSpec; MODEL_PLACES] = [
+static DAMIAO_MODELS: [MotorModelSpec; MODEL_PLACES] = [
     model!(b"3507           ", 4, 12.566, 50.0, 5.0),
     model!(b"4310           ", 4, 12.5, 30.0, 10.0),
     model!(b"4310P          ", 5, 12.5, 50.0, 10.0),

@@ -12,8 +12,8 @@ unfoldable pub in_places : List Name → List Name
 in_places names = names ++ replicate (model_places - length names) (name_of "")
 
 -- a name put last, if there is room
-unfoldable pub with_last : List Name → Name → List Name
-with_last names name = cond (ltb (length names) model_places) (names ++ name ∷ []) names
+unfoldable pub put_last : List Name → Name → List Name
+put_last names name = cond (ltb (length names) model_places) (names ++ name ∷ []) names
 
 -- the first `count` places have names, and the others are empty
 pub record OnlyFirst (count : ℕ) (names : List Name) : Type 0 where

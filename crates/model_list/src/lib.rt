@@ -4,7 +4,7 @@
 ghost use Rattle.std.specs.Prelude.{◌≡◌, ◌≤◌, min, [], length};
 ghost use Rattle.model_list.specs.Counted.{model_places, models_of};
 ghost use Rattle.model_list.specs.Models.{limits_by_name};
-ghost use Rattle.model_list.specs.Places.{with_last};
+ghost use Rattle.model_list.specs.Places.{put_last};
 
 use motor_core::error::Refusal;
 use motor_core::model::Maxima;
@@ -69,12 +69,8 @@ impl Names {
     pub fn new() -> Names
         ensures { result ≡ [] }
     {
-        let name = Name {
-            bytes: *b"               ",
-            len: 0,
-        };
         Names {
-            names: [name; MODEL_PLACES],
+            names: [Name::new(b""); MODEL_PLACES],
             count: 0,
         }
     }
@@ -87,9 +83,9 @@ impl Names {
     }
 
     // Puts a name last, if there is room.
-    #[tactic(auto, unfolding(crate::specs::Places::with_last))]
+    #[tactic(auto, unfolding(crate::specs::Places::put_last))]
     pub fn push(&mut self, name: Name)
-        ensures { self.new ≡ with_last self.old name }
+        ensures { self.new ≡ put_last self.old name }
     {
         let count = usize::from(self.count);
         if count < MODEL_PLACES {

@@ -33,7 +33,7 @@ fn matches(query: Query, tol: f32, spec: &MotorModelSpec) -> bool
 }
 
 // The names of the models that match.
-#[tactic(auto, unfolding(crate::specs::Matching::matching_names, model_list::specs::Places::with_last))]
+#[tactic(auto, unfolding(crate::specs::Matching::matching_names, model_list::specs::Places::put_last))]
 fn matching_names(models: &[MotorModelSpec], query: Query, tol: f32) -> Names
     requires { length models.now ≤ model_places }
     ensures { result ≡ Spec.matching_names models.now query tol }

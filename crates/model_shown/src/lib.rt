@@ -8,21 +8,18 @@ ghost use Rattle.model_shown.specs.Display as Spec;
 use model_list::Names;
 use motor_core::name::Name;
 
-#[tactic(auto, unfolding(crate::specs::Display::display_name, motor_core::specs::Name::name_of))]
+#[tactic(auto, unfolding(crate::specs::Display::display_name, motor_core::specs::Name::name_from, motor_core::specs::Name::name_of))]
 pub fn display_model_name(model: Name) -> Name
     ensures { result ≡ Spec.display_name model }
 {
     if model.spells(b"4340_v20") {
-        return Name {
-            bytes: *b"4340X          ",
-            len: 5,
-        };
+        return Name::new(b"4340X");
     }
     model
 }
 
 // Puts a name last, unless it is there.
-#[tactic(auto, unfolding(crate::specs::Display::among, crate::specs::Display::with_name, model_list::specs::Places::with_last))]
+#[tactic(auto, unfolding(crate::specs::Display::among, crate::specs::Display::with_name, model_list::specs::Places::put_last))]
 fn show(shown: &mut Names, name: Name)
     requires { length shown.old < model_places }
     ensures { shown.new ≡ Spec.with_name shown.old name }

@@ -10,6 +10,10 @@ unfoldable pub name_of : String → Name
 unfolding ascii
 name_of s = record { bytes = ascii s ++ replicate (15 - length (ascii s)) 0x20; len = length (ascii s) }
 
+-- the name that spells the first 15 bytes. `name_of` is this of a text's bytes, by `of_text` of proofs/Spelt.antt
+unfoldable pub name_from : List ℕ → Name
+name_from bytes = record { bytes = take 15 bytes ++ replicate (15 - length bytes) 0x20; len = length (take 15 bytes) }
+
 -- the bytes that a name spells
 abbrev pub spelling : Name → List ℕ
 spelling name = take name.len name.bytes

@@ -1,7 +1,7 @@
 // Names as byte strings.
 ghost use Rattle.std.specs.Prelude.{◌≡◌};
 ghost use Rattle.text.specs.Text.{same};
-ghost use Rattle.motor_core.specs.Name.{spelling, spell_same};
+ghost use Rattle.motor_core.specs.Name.{name_from, spelling, spell_same};
 
 use text::same_bytes;
 
@@ -13,6 +13,20 @@ pub struct Name {
 }
 
 impl Name {
+    // The name that spells the text, or its first 15 bytes where there are more.
+    #[tactic(auto, unfolding(crate::specs::Name::name_from))]
+    pub fn new(text: &[u8]) -> Name
+        ensures { result ≡ name_from text.now }
+    {
+        let mut bytes = [b' '; 15];
+        let len = text.len().min(bytes.len());
+        bytes[..len].copy_from_slice(&text[..len]);
+        Name {
+            bytes,
+            len: len as u8,
+        }
+    }
+
     // The bytes that it spells: the first `len`, or all where there are no more.
     pub fn as_bytes(&self) -> &[u8]
         ensures { result.now ≡ spelling self.now }

@@ -1,4 +1,4 @@
--- Setpoint frames, Definitions only.
+-- Setpoint frames. Definitions only.
 use Rattle.std.specs.Prelude.{ℕ, ◌+◌, [], ◌∷◌, ◌++◌, Float, Result}
 use Rattle.std.specs.Float.Ieee.{to_unsigned}
 use Rattle.float.specs.Float.{clip}

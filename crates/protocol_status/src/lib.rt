@@ -43,46 +43,16 @@ pub fn status_name(status: u8) -> StatusName
 pub fn status_text(name: StatusName) -> Name
     ensures { result ≡ name_of (spelt name) }
 {
-    match name {
-        StatusName::Disabled => Name {
-            bytes: *b"DISABLED       ",
-            len: 8,
-        },
-        StatusName::Enabled => Name {
-            bytes: *b"ENABLED        ",
-            len: 7,
-        },
-        StatusName::OverVoltage => Name {
-            bytes: *b"OVER_VOLTAGE   ",
-            len: 12,
-        },
-        StatusName::UnderVoltage => Name {
-            bytes: *b"UNDER_VOLTAGE  ",
-            len: 13,
-        },
-        StatusName::OverCurrent => Name {
-            bytes: *b"OVER_CURRENT   ",
-            len: 12,
-        },
-        StatusName::MosOverTemp => Name {
-            bytes: *b"MOS_OVER_TEMP  ",
-            len: 13,
-        },
-        StatusName::RotorOverTemp => Name {
-            bytes: *b"ROTOR_OVER_TEMP",
-            len: 15,
-        },
-        StatusName::LostComm => Name {
-            bytes: *b"LOST_COMM      ",
-            len: 9,
-        },
-        StatusName::Overload => Name {
-            bytes: *b"OVERLOAD       ",
-            len: 8,
-        },
-        StatusName::Unknown => Name {
-            bytes: *b"UNKNOWN        ",
-            len: 7,
-        },
-    }
+    Name::new(match name {
+        StatusName::Disabled => b"DISABLED",
+        StatusName::Enabled => b"ENABLED",
+        StatusName::OverVoltage => b"OVER_VOLTAGE",
+        StatusName::UnderVoltage => b"UNDER_VOLTAGE",
+        StatusName::OverCurrent => b"OVER_CURRENT",
+        StatusName::MosOverTemp => b"MOS_OVER_TEMP",
+        StatusName::RotorOverTemp => b"ROTOR_OVER_TEMP",
+        StatusName::LostComm => b"LOST_COMM",
+        StatusName::Overload => b"OVERLOAD",
+        StatusName::Unknown => b"UNKNOWN",
+    })
 }

@@ -50,7 +50,7 @@ pub enum CallName {
 #[derive(Clone, Copy)]
 pub struct Row(pub &'static [u8], pub CallName, pub &'static [Kind]);
 
-const CALLS: [Row; 36] = [
+static CALLS: [Row; 36] = [
     Row(
         b"start-limits",
         CallName::StartLimits,

@@ -57,6 +57,7 @@ fn spell(n: u64, base: u64, k: usize, out: &mut [u8])
     ensures { take k out.new ≡ digits base k n }
 {
     let mut rest = n;
+    // By place: what is written through `iter_mut().rev()` no proof knows.
     for i in (0..k).rev() {
         out[i] = glyph(rest % base);
         rest /= base;

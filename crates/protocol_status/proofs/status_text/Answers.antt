@@ -1,46 +1,28 @@
 -- `protocol_status::status_text` meets its contract. Assumes nothing.
-use mathlib.Core.Path.{sym, ap}
-use Rattle.motor_core.specs.Name.{name_of}
+use Rattle.std.proofs.Common.{◌≡◌, ◌∙◌, refl, sym, ap, List, ℕ, Bor}
+use Rattle.motor_core.specs.Name.{name_of, name_from}
 use Rattle.protocol_status.specs.Status.{spelt}
 use Rattle.protocol_status.specs.declared.StatusName.{StatusName}
 use Rattle.protocol_status.proofs.status_text.Goals as goal
+use Rattle.protocol_status.proofs.status_text.Goals.{in-Disabled, in-Enabled, in-OverVoltage, in-UnderVoltage, in-OverCurrent, in-MosOverTemp, in-RotorOverTemp, in-LostComm, in-Overload, in-Unknown}
 
-pub returns-in-Disabled : goal.returns-in-Disabled
-unfolding name_of
-returns-in-Disabled c = sym (ap (λ (n : StatusName). name_of (spelt n)) c.in-Disabled.is)
+-- the name that an arm's text makes
+made : {text arm : Bor (List ℕ)} {name case : StatusName} → text ≡ arm → name ≡ case → name_from arm.now ≡ name_of (spelt case) → name_from text.now ≡ name_of (spelt name)
+made t n e = ap (λ (b : Bor (List ℕ)). name_from b.now) t ∙ e ∙ sym (ap (λ (m : StatusName). name_of (spelt m)) n)
 
-pub returns-in-Enabled : goal.returns-in-Enabled
-unfolding name_of
-returns-in-Enabled c = sym (ap (λ (n : StatusName). name_of (spelt n)) c.in-Enabled.is)
-
-pub returns-in-OverVoltage : goal.returns-in-OverVoltage
-unfolding name_of
-returns-in-OverVoltage c = sym (ap (λ (n : StatusName). name_of (spelt n)) c.in-OverVoltage.is)
-
-pub returns-in-UnderVoltage : goal.returns-in-UnderVoltage
-unfolding name_of
-returns-in-UnderVoltage c = sym (ap (λ (n : StatusName). name_of (spelt n)) c.in-UnderVoltage.is)
-
-pub returns-in-OverCurrent : goal.returns-in-OverCurrent
-unfolding name_of
-returns-in-OverCurrent c = sym (ap (λ (n : StatusName). name_of (spelt n)) c.in-OverCurrent.is)
-
-pub returns-in-MosOverTemp : goal.returns-in-MosOverTemp
-unfolding name_of
-returns-in-MosOverTemp c = sym (ap (λ (n : StatusName). name_of (spelt n)) c.in-MosOverTemp.is)
-
-pub returns-in-RotorOverTemp : goal.returns-in-RotorOverTemp
-unfolding name_of
-returns-in-RotorOverTemp c = sym (ap (λ (n : StatusName). name_of (spelt n)) c.in-RotorOverTemp.is)
-
-pub returns-in-LostComm : goal.returns-in-LostComm
-unfolding name_of
-returns-in-LostComm c = sym (ap (λ (n : StatusName). name_of (spelt n)) c.in-LostComm.is)
-
-pub returns-in-Overload : goal.returns-in-Overload
-unfolding name_of
-returns-in-Overload c = sym (ap (λ (n : StatusName). name_of (spelt n)) c.in-Overload.is)
-
-pub returns-in-Unknown : goal.returns-in-Unknown
-unfolding name_of
-returns-in-Unknown c = sym (ap (λ (n : StatusName). name_of (spelt n)) c.in-Unknown.is)
+pub returns : goal.returns
+unfolding name_of name_from
+returns c =
+    c.new.ensures
+    ∙ elim c.match-name.branch [
+      | in-Disabled w ↦ made w.new-is w.in-Disabled.is refl
+      | in-Enabled w ↦ made w.new-is w.in-Enabled.is refl
+      | in-OverVoltage w ↦ made w.new-is w.in-OverVoltage.is refl
+      | in-UnderVoltage w ↦ made w.new-is w.in-UnderVoltage.is refl
+      | in-OverCurrent w ↦ made w.new-is w.in-OverCurrent.is refl
+      | in-MosOverTemp w ↦ made w.new-is w.in-MosOverTemp.is refl
+      | in-RotorOverTemp w ↦ made w.new-is w.in-RotorOverTemp.is refl
+      | in-LostComm w ↦ made w.new-is w.in-LostComm.is refl
+      | in-Overload w ↦ made w.new-is w.in-Overload.is refl
+      | in-Unknown w ↦ made w.new-is w.in-Unknown.is refl
+    ]
