@@ -60,20 +60,23 @@ pub fn latest_state_snapshot(head: Head) -> Option<FeedbackSnapshot>
 }
 
 // Sets status and temperatures of the latest record, and answers whether there is one.
-pub fn patch_latest(mut session: Session, status: u8, t_mos: u8, t_rotor: u8) -> AfterPatch
-    ensures { result ≡ Spec.patch session status t_mos t_rotor }
+fn patch_lent(session: &mut Session, status: u8, t_mos: u8, t_rotor: u8) -> bool
+    ensures told { result ≡ (Spec.patch session.old status t_mos t_rotor).told }
+    ensures session { session.new ≡ (Spec.patch session.old status t_mos t_rotor).session }
 {
     match state_feedback::patch_latest(session.head.feedback, status, t_mos, t_rotor) {
         Some(feedback) => {
             session.head.feedback = feedback;
-            After {
-                session,
-                told: true,
-            }
+            true
         }
-        None => After {
-            session,
-            told: false,
-        },
+        None => false,
     }
+}
+
+// The same for a session that goes by value: it is lent for the patch and handed back.
+pub fn patch_latest(mut session: Session, status: u8, t_mos: u8, t_rotor: u8) -> AfterPatch
+    ensures { result ≡ Spec.patch session status t_mos t_rotor }
+{
+    let told = patch_lent(&mut session, status, t_mos, t_rotor);
+    After { session, told }
 }

@@ -88,83 +88,76 @@ fn told_total(sum: u64, told: Result<Told, Refusal>) -> u64 {
     }
 }
 
-fn told(turn: AfterCall, value: u32, now: Instant, sum: u64) -> Line {
-    Line {
-        turn,
-        value,
-        now,
-        sum: told_total(sum, turn.told),
-    }
+// What a call left, and what it told.
+fn hear(line: &mut Line, turn: AfterCall) {
+    line.turn = turn;
+    line.sum = told_total(line.sum, turn.told);
 }
 
-fn clock_read(line: Line) -> Line {
-    let after = answer_run(line.turn.session, Answer::Reading(line.now));
-    told(after, line.value, line.now, line.sum)
+fn clock_read(line: &mut Line) {
+    hear(
+        line,
+        answer_run(line.turn.session, Answer::Reading(line.now)),
+    );
 }
 
-fn sent(line: Line, data: u64) -> Line {
+fn sent(line: &mut Line, data: u64) {
     let frame = motor_frame(line.value, data);
     let taking = take_frame(line.turn.session, frame, line.now);
-    let after = answer_run(taking.session, Answer::Send(Ok(())));
-    told(after, value_after(line.value, data), line.now, line.sum)
+    hear(line, answer_run(taking.session, Answer::Send(Ok(()))));
+    line.value = value_after(line.value, data);
 }
 
-fn slept(line: Line, length: Duration) -> Line {
-    let later = Instant(line.now.0.wrapping_add(length.0));
-    let after = answer_run(line.turn.session, Answer::Slept);
-    told(after, line.value, later, line.sum)
+fn slept(line: &mut Line, length: Duration) {
+    hear(line, answer_run(line.turn.session, Answer::Slept));
+    line.now = Instant(line.now.0.wrapping_add(length.0));
 }
 
 // Does what is wanted, if anything is, and says so.
-fn answered(line: Line) -> Line {
+fn answered(line: &mut Line) {
     match line.turn.told {
         Ok(Told::Want(Want::Clock)) => clock_read(line),
         Ok(Told::Want(Want::Send(command))) => sent(line, command.data),
         Ok(Told::Want(Want::Sleep(length))) => slept(line, length),
-        _ => line,
+        _ => {}
     }
 }
 
 // A run whose frames are answered at once is over after so many answers.
-fn after_answers(mut line: Line, count: u64) -> Line {
+fn answer_all(line: &mut Line, count: u64) {
     for _ in 0..count {
-        line = answered(line);
+        answered(line);
     }
-    line
 }
 
 // The run of a place. The motor has the frame's value if it is read; a write is of it; a switch is to mode
 // 2 if the place is even, else to 1. The readings of a read or a write are its place; of switches the clock
 // stands but for sleeps.
-fn one_run(kind: Kind, line: Line, data: [u8; 8], place: u64) -> Line {
-    let session = line.turn.session;
-    let Line {
-        value,
-        now,
-        sum,
-        ..
-    } = line;
+fn one_run(kind: Kind, line: &mut Line, data: [u8; 8], place: u64) {
     match kind {
         Kind::Read => {
-            let begun = get_register_u32(session, 10, READ_TIMEOUT);
-            after_answers(told(begun, value_in(data), Instant(place), sum), 2)
+            line.value = value_in(data);
+            line.now = Instant(place);
+            hear(line, get_register_u32(line.turn.session, 10, READ_TIMEOUT));
+            answer_all(line, 2);
         }
         Kind::Write => {
-            let begun = write_register_u32(session, 10, value_in(data));
-            after_answers(told(begun, value, Instant(place), sum), 2)
+            line.now = Instant(place);
+            hear(
+                line,
+                write_register_u32(line.turn.session, 10, value_in(data)),
+            );
+            answer_all(line, 2);
         }
         Kind::Switch => {
-            let begun = ensure_control_mode(session, (2 - place % 2) as u32, SWITCH_TIMEOUT);
-            after_answers(told(begun, value, now, sum), 19)
+            let mode = (2 - place % 2) as u32;
+            hear(
+                line,
+                ensure_control_mode(line.turn.session, mode, SWITCH_TIMEOUT),
+            );
+            answer_all(line, 19);
         }
     }
-}
-
-fn after_runs(kind: Kind, mut line: Line, frames: &[[u8; 8]]) -> Line {
-    for (place, data) in frames.iter().enumerate() {
-        line = one_run(kind, line, *data, place as u64);
-    }
-    line
 }
 
 // The motor is in mode 1.
@@ -181,7 +174,10 @@ fn at_first(session: Session) -> Line {
 }
 
 fn runs_total(kind: Kind, session: Session, frames: &[[u8; 8]]) -> u64 {
-    let line = after_runs(kind, at_first(session), frames);
+    let mut line = at_first(session);
+    for (place, data) in frames.iter().enumerate() {
+        one_run(kind, &mut line, *data, place as u64);
+    }
     mixed(line.sum, session_total(line.turn.session))
 }
 
