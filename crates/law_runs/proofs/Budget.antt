@@ -29,21 +29,16 @@ use Rattle.run_wait.specs.Wait.{late, wait_want, wait_step}
 use Rattle.run_wait.specs.declared.Wait.{Wait}
 use Rattle.run_wait.specs.declared.Wait.TheVariants.{Checking, Napping}
 use Rattle.run_wait.specs.declared.Waited.{Waited}
-use Rattle.run_wait.specs.declared.Waited.TheVariants as Waited
 use Rattle.run_wait.specs.declared.ask.Ask.{Ask}
-use Rattle.run_wait.specs.declared.ask.Ask.TheVariants as Ask
 use Rattle.run_read.specs.Read.{read_by, get_by, get_step}
 use Rattle.run_write.specs.Ack.{ack_timeout, ack_want, ack_waited, ack_step}
 use Rattle.run_write.specs.Ack as AckSpec
 use Rattle.run_write.specs.Write.{write_want, again, write_waited, write_step}
 use Rattle.run_write.specs.declared.ack.AckWait.{AckWait}
-use Rattle.run_write.specs.declared.ack.AckWait.TheVariants as AckWait
 use Rattle.run_write.specs.declared.Write.{Write}
-use Rattle.run_write.specs.declared.Write.TheVariants as Write
 use Rattle.run_fresh.specs.State.{state_by, state_step}
 use Rattle.run_fresh.specs.Store.{state_timeout, store_want, by_status, store_asked, store_step}
 use Rattle.run_fresh.specs.declared.store.Store.{Store}
-use Rattle.run_fresh.specs.declared.store.Store.TheVariants as Store
 use Rattle.protocol_hold.specs.declared.ControlMode.{ControlMode}
 use Rattle.protocol_hold.specs.declared.ControlMode.TheVariants.{Mit, PosVel, Vel, ForcePos}
 use Rattle.switch_stage.specs.Stage.{mode_value, switch_want}
@@ -59,10 +54,8 @@ use Rattle.switch_stage.specs.declared.ModeRead.TheVariants.{First, Verify}
 use Rattle.switch_stage.specs.declared.Progress.{Progress}
 use Rattle.switch_stage.specs.declared.Stage.TheVariants as Stage
 use Rattle.switch_stage.specs.declared.Switch.{Switch}
-use Rattle.switch_stage.specs.declared.Switch.TheVariants as Switch
 use Rattle.run_machine.specs.Machine.{machine_want}
 use Rattle.run_step.specs.Step.{machine_step}
-use Rattle.run_machine.specs.declared.Outcome.{Outcome}
 use Rattle.run_machine.specs.declared.Outcome.TheVariants.{Done, Value, State}
 use Rattle.run_want.specs.Step.{Stepped, goes, ends, map_stepped}
 use Rattle.std.specs.declared.ops.ControlFlow.TheVariants.{Continue, Break}

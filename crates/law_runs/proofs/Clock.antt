@@ -12,7 +12,6 @@ use Rattle.time.specs.declared.Duration.{Duration}
 use Rattle.run_want.specs.declared.Answer.{Answer}
 use Rattle.run_want.specs.declared.Want.{Want}
 use Rattle.run_want.specs.declared.message.Message.{Message}
-use Rattle.run_want.specs.declared.Want.TheVariants as Want
 use Rattle.run_wait.specs.Wait.{late, poll_interval}
 use Rattle.run_wait.specs.declared.Wait.{Wait}
 use Rattle.run_wait.specs.declared.Wait.TheVariants.{Checking, Napping}

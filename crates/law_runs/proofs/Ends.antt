@@ -21,14 +21,12 @@ use Rattle.state_cache.specs.Cache.{value_in}
 use Rattle.run_wait.specs.Look.{fresh_entry, fresh_record}
 use Rattle.run_wait.specs.Wait.{late}
 use Rattle.run_wait.specs.declared.Wait.TheVariants.{Checking, Napping}
-use Rattle.run_wait.specs.declared.Waited.TheVariants as Waited
 use Rattle.run_wait.specs.declared.ask.Ask.{Ask}
 use Rattle.run_wait.specs.declared.ask.Ask.TheVariants.{Opening, Sending, Waiting}
 use Rattle.run_read.specs.Read.{read_by, read_step, get_by, get_step}
 use Rattle.run_write.specs.Ack.{ack_timeout, ack_waited, ack_step}
 use Rattle.run_write.specs.Ack as AckSpec
 use Rattle.run_write.specs.declared.ack.AckWait.{AckWait}
-use Rattle.run_write.specs.declared.ack.AckWait.TheVariants as AckWait
 use Rattle.run_write.specs.Write.{write_waited, write_step}
 use Rattle.run_want.specs.Step.{Stepped, goes, ends}
 use Rattle.run_want.specs.declared.Failure.{Failure}
@@ -38,7 +36,6 @@ use Rattle.state_feedback.specs.declared.FeedbackSnapshot.{FeedbackSnapshot}
 use Rattle.state_feedback.specs.declared.MotorFeedbackState.{MotorFeedbackState}
 use Rattle.motor_core.specs.Outcome.{and_then}
 use Rattle.run_write.specs.declared.Write.{Write}
-use Rattle.run_write.specs.declared.Write.TheVariants as Write
 use Rattle.run_fresh.specs.State.{state_by, state_step}
 use Rattle.law_runs.specs.Ends.{ask_opening, ack_opening, HoldsFresh, Look, Since, ReadSaw, GetSaw, AckSaw, StateSaw, WriteSaw}
 

@@ -5,7 +5,6 @@ use Rattle.run_want.specs.Step.{Stepped}
 use Rattle.run_want.specs.declared.Failure.{Failure}
 use Rattle.std.specs.declared.ops.ControlFlow.TheVariants.{Continue, Break}
 use Rattle.run_wait.specs.declared.Waited.{Waited}
-use Rattle.run_wait.specs.declared.Waited.TheVariants as Waited
 use Rattle.run_machine.specs.declared.Outcome.{Outcome}
 use Rattle.time.specs.Time.{millis}
 use Rattle.time.specs.declared.Instant.{Instant}
@@ -14,28 +13,22 @@ use Rattle.registers.specs.Value.{bits_of}
 use Rattle.registers.specs.declared.RegisterValue.{RegisterValue}
 use Rattle.run_want.specs.declared.Want.{Want}
 use Rattle.run_want.specs.declared.message.Message.{Message}
-use Rattle.run_want.specs.declared.message.Message.TheVariants as Message
 use Rattle.protocol_hold.specs.declared.ControlMode.{ControlMode}
 use Rattle.protocol_hold.specs.declared.ControlMode.TheVariants.{Mit, PosVel, Vel, ForcePos}
 use Rattle.run_wait.specs.Wait.{late, poll_interval}
 use Rattle.run_wait.specs.declared.Wait.{Wait}
 use Rattle.run_wait.specs.declared.Wait.TheVariants.{Checking, Napping}
 use Rattle.run_wait.specs.declared.ask.Ask.{Ask}
-use Rattle.run_wait.specs.declared.ask.Ask.TheVariants as Ask
 use Rattle.run_write.specs.Ack.{ack_timeout}
 use Rattle.run_write.specs.declared.ack.AckWait.{AckWait}
-use Rattle.run_write.specs.declared.ack.AckWait.TheVariants as AckWait
 use Rattle.run_write.specs.declared.Write.{Write}
-use Rattle.run_write.specs.declared.Write.TheVariants as Write
 use Rattle.run_fresh.specs.Store.{state_timeout}
 use Rattle.run_fresh.specs.declared.store.Store.{Store}
-use Rattle.run_fresh.specs.declared.store.Store.TheVariants as Store
 use Rattle.switch_stage.specs.Stage.{mode_value}
 use Rattle.switch_stage.specs.declared.ModeRead.{ModeRead}
 use Rattle.switch_stage.specs.declared.ModeRead.TheVariants.{First, Verify}
 use Rattle.switch_stage.specs.declared.Stage.TheVariants as Stage
 use Rattle.switch_stage.specs.declared.Switch.{Switch}
-use Rattle.switch_stage.specs.declared.Switch.TheVariants as Switch
 use Rattle.run_machine.specs.declared.Machine.{Machine}
 use Rattle.run_machine.specs.declared.Machine.TheVariants.{GetRegister, WriteRegister, RequestFreshState, StoreParameters, EnsureControlMode}
 use Rattle.law_runs.specs.Clock.{Clocked}

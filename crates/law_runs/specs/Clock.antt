@@ -7,7 +7,6 @@ use Rattle.run_want.specs.Want.{reading_of}
 use Rattle.run_want.specs.declared.Answer.{Answer}
 use Rattle.run_want.specs.declared.Want.{Want}
 use Rattle.run_want.specs.declared.message.Message.{Message}
-use Rattle.run_want.specs.declared.Want.TheVariants as Want
 use Rattle.law_runs.specs.Trace.{Given, System}
 
 -- what is known after a reading and after a sleep, and which readings are fine then

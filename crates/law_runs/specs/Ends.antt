@@ -21,9 +21,7 @@ use Rattle.run_wait.specs.declared.ask.Ask.{Ask}
 use Rattle.run_wait.specs.declared.ask.Ask.TheVariants.{Opening, Sending, Waiting}
 use Rattle.run_write.specs.Ack.{ack_timeout}
 use Rattle.run_write.specs.declared.ack.AckWait.{AckWait}
-use Rattle.run_write.specs.declared.ack.AckWait.TheVariants as AckWait
 use Rattle.run_write.specs.declared.Write.{Write}
-use Rattle.run_write.specs.declared.Write.TheVariants as Write
 
 -- the opening that a phase has taken
 abbrev pub wait_opening : Wait → Instant

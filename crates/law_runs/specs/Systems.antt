@@ -9,7 +9,6 @@ use Rattle.run_wait.specs.Wait.{wait_want, wait_step}
 use Rattle.run_wait.specs.declared.Wait.{Wait}
 use Rattle.run_wait.specs.declared.Wait.TheVariants.{Checking}
 use Rattle.run_wait.specs.declared.Waited.{Waited}
-use Rattle.run_wait.specs.declared.Waited.TheVariants as Waited
 use Rattle.run_write.specs.Ack.{ack_want, ack_step}
 use Rattle.run_write.specs.declared.ack.AckWait.{AckWait}
 use Rattle.run_machine.specs.Machine.{machine_want}

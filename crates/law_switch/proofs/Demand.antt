@@ -22,8 +22,6 @@ use Rattle.session.specs.declared.Head.{Head}
 use Rattle.session.specs.declared.Session.{Session}
 use Rattle.session_step.specs.declared.Told.TheVariants as Told
 use Rattle.session_answer.specs.Answer.{AfterCall}
-use Rattle.run_machine.specs.Machine.{machine_want}
-use Rattle.session_step.specs.Parts.{caller_want}
 use Rattle.run_arguments.specs.Arguments.{mode_start}
 use Rattle.session_begin.specs.Begin.{with_opened, begin, ensure_control_mode}
 use Rattle.session_begin.proofs.Effects.{start_cases}
@@ -33,7 +31,7 @@ use Rattle.law_runs.specs.Trace as Trace
 use Rattle.law_runs.specs.Systems.{running}
 use Rattle.law_runs.proofs.Runs.{bounds}
 use Rattle.motor_core.specs.declared.error.Refusal.{Refusal}
-use Rattle.law_switch.specs.Claim.{Answered, switch, Call, Returned, told, start_run, step, open_want, patched, events, session_after, last_reply, Gave, Turn, turns, turns_after, result_in, result_of, gaves, count, a_send, a_sleep, on_7ff, wants_send, wants_sleep, any, reads_mode, writes_mode, mode_read, mode_write, AllMove, Accepted, Bounded, Claim, a_want, send_to, is_sleep}
+use Rattle.law_switch.specs.Claim.{Answered, Call, Returned, told, start_run, step, open_want, patched, events, session_after, last_reply, Gave, Turn, turns, turns_after, result_in, result_of, gaves, count, a_send, a_sleep, wants_send, wants_sleep, any, reads_mode, writes_mode, mode_read, mode_write, AllMove, Accepted, Bounded, Claim, a_want, send_to, is_sleep}
 use Rattle.law_switch.proofs.Ended.{answered, closed_after}
 use Rattle.law_switch.proofs.Ran.{machine, gave_want, Ran, ran}
 use Rattle.law_switch.proofs.Sessions.{mode_entry, Sound, list_sound, list_entry, refused_leaves}

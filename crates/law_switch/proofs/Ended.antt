@@ -9,7 +9,6 @@ use Rattle.protocol_hold.specs.declared.ControlMode.{ControlMode}
 use Rattle.run_want.specs.declared.Answer.{Answer}
 use Rattle.run_want.specs.declared.Want.{Want}
 use Rattle.run_want.specs.declared.message.Message.{Message}
-use Rattle.run_want.specs.declared.Want.TheVariants.{Clock, Send, Sleep}
 use Rattle.switch_stage.specs.Stage.{switch_want}
 use Rattle.switch_step.specs.Switch.{switch_step}
 use Rattle.switch_stage.specs.declared.Switch.{Switch}

@@ -21,7 +21,6 @@ use Rattle.run_want.specs.Want.{fits, reading_of, send_outcome}
 use Rattle.run_want.specs.declared.Answer.{Answer}
 use Rattle.run_want.specs.declared.Answer.TheVariants.{Slept}
 use Rattle.run_want.specs.declared.Failure.{Failure}
-use Rattle.run_want.specs.declared.Failure.TheVariants as Failure
 use Rattle.run_want.specs.declared.Want.{Want}
 use Rattle.run_want.specs.declared.message.Message.{Message}
 use Rattle.run_want.specs.declared.Want.TheVariants.{Clock, Send, Sleep}
@@ -37,7 +36,6 @@ use Rattle.run_wait.specs.declared.ask.Ask.TheVariants.{Opening, Sending, Waitin
 use Rattle.run_wait.specs.Ask.{looked}
 use Rattle.run_read.specs.Read.{read_want, read_by, get_by, get_step}
 use Rattle.run_write.specs.declared.ack.AckWait.TheVariants as Ack
-use Rattle.run_write.specs.declared.Write.TheVariants as Write
 use Rattle.run_write.specs.Write.{write_step}
 use Rattle.switch_stage.specs.Stage.{mode_value, switch_want, switch_place}
 use Rattle.switch_prepare.specs.Prepare.{prepare, after_hold_read, cleared, hold_timed}

@@ -29,7 +29,6 @@ use Rattle.std.specs.declared.ops.ControlFlow.TheVariants.{Continue, Break}
 use Rattle.run_machine.specs.declared.Machine.{Machine}
 use Rattle.run_machine.specs.declared.Machine.TheVariants.{EnsureControlMode}
 use Rattle.run_machine.specs.Machine.{RunResult}
-use Rattle.run_machine.specs.declared.Outcome.TheVariants as Outcome
 use Rattle.session.specs.declared.Head.{Head}
 use Rattle.session.specs.declared.Session.{Session}
 use Rattle.session.specs.Session.{patch as patch_latest}
@@ -45,7 +44,7 @@ use Rattle.protocol_frame.specs.Command.{command}
 use Rattle.law_runs.specs.Systems.{phase_of}
 use Rattle.session.proofs.Patching.{left}
 use Rattle.run_machine.specs.declared.Outcome.{Outcome}
-use Rattle.law_switch.specs.Claim.{Start, Call, start, answer, frame_lent, patch, Returned, told, start_run, step, open_want, events, session_after, Gave, Turn, taken_in, reply_with, turn_in, turn_of, add_turn, turns}
+use Rattle.law_switch.specs.Claim.{Start, Call, start, answer, frame_lent, patch, Returned, start_run, step, open_want, events, session_after, Gave, Turn, taken_in, reply_with, turn_in, turn_of, add_turn, turns}
 use Rattle.law_switch.proofs.Sessions.{starting, is_beginning, mode_entry, Sound, answer_sound, patch_sound, frame_sound, frame_entry}
 use Rattle.session_step.specs.Parts.{Wanted}
 use Rattle.run_want.specs.declared.Want.TheVariants as Wanted

@@ -16,7 +16,6 @@ use Rattle.state_cache.specs.declared.Entry.TheVariants.{Held}
 use Rattle.state_cache.specs.declared.Place.TheVariants.{Reply}
 use Rattle.run_want.specs.Want.{fits, reading_of, send_outcome}
 use Rattle.run_want.specs.declared.Answer.{Answer}
-use Rattle.run_want.specs.declared.Answer.TheVariants as Answer
 use Rattle.run_want.specs.declared.Failure.{Failure}
 use Rattle.run_want.specs.declared.Want.{Want}
 use Rattle.run_want.specs.declared.message.Message.{Message}
@@ -41,7 +40,7 @@ use Rattle.law_runs.specs.Ends.{wait_opening, Look, Since}
 use Rattle.run_want.specs.Step.{Stepped}
 use Rattle.std.specs.declared.ops.ControlFlow.TheVariants.{Continue, Break}
 use Rattle.motor_core.proofs.Turned.{clash}
-use Rattle.law_switch.specs.Claim.{Gave, Turn, gaves, once, count, a_send, on_7ff, wants_send, reads_mode, mode_read, result_of, reading_or, gave_after, reading_after, Looks, Found, a_want, send_to}
+use Rattle.law_switch.specs.Claim.{Gave, Turn, gaves, once, count, a_send, wants_send, reads_mode, mode_read, result_of, reading_or, gave_after, reading_after, Looks, Found, a_want, send_to}
 use Rattle.law_switch.proofs.ModeReads.{mode_ask, in_read, ask_of, Saw, Entered, Law, switch_law, EndsDone, ends_done, Quiet, WantsSend, StaysQuiet, sending_quiet, stays_quiet, quiet_sleep}
 use Rattle.law_switch.proofs.Ran.{gave_want, gave_result, Took, Onward, onward_cases, Ran}
 use Rattle.law_switch.proofs.Told.{reads_alike}

@@ -10,7 +10,6 @@ use Rattle.time.specs.declared.Duration.{Duration}
 use Rattle.protocol_hold.specs.declared.ControlMode.{ControlMode}
 use Rattle.run_want.specs.declared.Want.{Want}
 use Rattle.run_want.specs.declared.message.Message.{Message}
-use Rattle.run_want.specs.declared.Want.TheVariants.{Clock, Send, Sleep}
 use Rattle.switch_stage.specs.Stage.{switch_want}
 use Rattle.switch_step.specs.Switch.{switch_step}
 use Rattle.switch_stage.specs.declared.Switch.{Switch}
@@ -113,7 +112,7 @@ module _ (h : Head) (mode : ControlMode) (timeout : Duration) where
       }
 
       ends : (r : RunResult) → stepped next ≡ None → t.gave ≡ gave_result h mode timeout r → ts ≡ [] → Traced p l (t ∷ ts)
-      unfolding gaves count Trace.total wants_from after AllFine result_of result_in length
+      unfolding gaves count Trace.total wants_from after AllFine result_of result_in
       ends r e gave stop = record {
         gs = given ∷ [];
         as_many = ap (λ (ts : List Turn). suc (length ts)) (sym stop);

@@ -17,7 +17,6 @@ use Rattle.model_list.specs.declared.MotorModelSpec.{MotorModelSpec}
 use Rattle.state_cache.specs.declared.Entry.{Entry}
 use Rattle.state_cache.specs.declared.Entry.TheVariants.{Empty, Held}
 use Rattle.run_want.specs.declared.Answer.{Answer}
-use Rattle.run_want.specs.declared.Answer.TheVariants as Answer
 use Rattle.run_want.specs.declared.Want.{Want}
 use Rattle.run_want.specs.declared.Want.TheVariants.{Clock, Send, Sleep}
 use Rattle.run_want.specs.declared.message.Message.{Message}
@@ -34,7 +33,6 @@ use Rattle.session_frame.specs.Frame.{FrameOutcome, take_frame}
 use Rattle.session_frame.specs.Frame.{AfterFrame}
 use Rattle.session_answer.specs.Answer.{answer_run}
 use Rattle.session_step.specs.declared.Told.{Told}
-use Rattle.session_step.specs.declared.Told.TheVariants as Told
 use Rattle.session_step.specs.Parts.{Wanted}
 use Rattle.run_want.specs.declared.Want.TheVariants as Wanted
 use Rattle.session_answer.specs.Answer.{AfterCall}

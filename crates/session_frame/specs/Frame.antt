@@ -14,7 +14,6 @@ use Rattle.state_feedback.specs.declared.FeedbackCache.{FeedbackCache}
 use Rattle.state_cache.specs.declared.Entry.{Entry}
 use Rattle.state_cache.specs.declared.Entry.TheVariants.{Held}
 use Rattle.state_cache.specs.declared.Place.{Place}
-use Rattle.state_cache.specs.declared.Place.TheVariants as Place
 use Rattle.session.specs.Session.{with_feedback, with_last, with_head, with_replies, with_acks}
 use Rattle.session.specs.declared.Head.{Head}
 use Rattle.session.specs.declared.Session.{Session}
