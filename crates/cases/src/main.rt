@@ -107,18 +107,9 @@ fn shown(rt: &impl Print) {
 // One name twice, under which two models are shown.
 fn shown_once(rt: &impl Print) {
     let mut names = Names::new();
-    names.push(Name {
-        bytes: *b"4340X          ",
-        len: 5,
-    });
-    names.push(Name {
-        bytes: *b"4340_v20       ",
-        len: 8,
-    });
-    names.push(Name {
-        bytes: *b"4340X          ",
-        len: 5,
-    });
+    names.push(Name::new(b"4340X"));
+    names.push(Name::new(b"4340_v20"));
+    names.push(Name::new(b"4340X"));
     text(rt, b"4340X 4340_v20 4340X are shown as:");
     words(rt, &display_models(&names));
     text(rt, b"\n");

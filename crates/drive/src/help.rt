@@ -2,7 +2,8 @@
 use crate::page::Page;
 use script::CallName;
 
-// A line for each call, in the order of their names.
+// A line for each call, in the order of their names, so that a name finds it. In a `match` on the name the
+// help would need a list of the names beside it.
 static CALLS: [&[u8]; 36] = [
     b"start-limits MOTOR FEEDBACK P V T",
     b"start-model NAME MOTOR FEEDBACK",

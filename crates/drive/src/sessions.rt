@@ -5,7 +5,6 @@ use crate::results::put_told;
 use crate::running::turn;
 use crate::session_text::put_session;
 use model_damiao::damiao_models;
-use motor_core::bus::CanFrame;
 use motor_core::error::Refusal;
 use script::{Call, CallName};
 use script_words::second_word;

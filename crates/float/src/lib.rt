@@ -1,4 +1,4 @@
-// f32 helpers that the language lacks: bit patterns with their NaNs, clamping, and `as` casts to
+// f32 helpers beside the language's: bit patterns with their NaNs, clamping to any two limits, and casts to
 // whole numbers, worked out from the bits. Each is total.
 #![tactic(auto)]
 
@@ -59,7 +59,7 @@ fn fraction_digits(exponent: u32) -> u32
 
 // Rust's `x as u32`: the fraction is dropped, what is out of range goes to the nearest end, and a
 // NaN gives 0.
-// By the bits: std's cast goes by way of an `f64` and takes longer.
+// By the bits: std's cast goes by way of an `f64`, and with it encoding misses the time that it takes so.
 pub fn as_u32(x: f32) -> u32
     ensures { result ≡ Ieee.to_unsigned 32 x }
 {

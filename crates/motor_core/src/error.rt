@@ -22,6 +22,7 @@ impl From<Refusal> for u8 {
     ghost from_gives = { λ refusal n. n ≡ number refusal };
 
     fn from(refusal: Refusal) -> u8 {
+        // its discriminants are the numbers, which a `match` would only repeat
         refusal as u8
     }
 }

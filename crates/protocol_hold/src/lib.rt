@@ -43,6 +43,7 @@ impl From<ControlMode> for u32 {
     ghost from_gives = { λ mode number. number ≡ Spec.mode_number mode };
 
     fn from(mode: ControlMode) -> u32 {
+        // its discriminants are the numbers, which a `match` would only repeat
         mode as u32
     }
 }

@@ -1,7 +1,7 @@
 // What a received frame says: its class, and the feedback in it or a register and its value.
 #![tactic(auto)]
 
-ghost use Rattle.std.specs.Prelude.{◌≡◌, ◌+◌, ◌*◌, ◌&&◌, ◌||◌, leb, eqb};
+ghost use Rattle.std.specs.Prelude.{◌≡◌, ◌&&◌, ◌||◌, leb, eqb};
 ghost use Rattle.protocol_received.specs.Received as Spec;
 
 use motor_core::model::PvTLimits;
@@ -16,7 +16,8 @@ pub enum FrameClass {
     Feedback,
 }
 
-// What a frame says: a register's value, replied or acknowledged, or feedback.
+// What a frame says: a register's value, replied or acknowledged, or feedback. With one case for both of a
+// register, what asks for replies alone would look into two enums.
 #[derive(Clone, Copy)]
 pub enum Received {
     Reply(u8, RegisterValue),

@@ -124,7 +124,8 @@ pub fn mit_cmd(motor_id: u16, maxima: Maxima, setpoint: MitSetpoint) -> Result<C
     )
 }
 
-// Where position-velocity, velocity and force-position setpoints go; MIT goes to the motor id itself.
+// Where position-velocity, velocity and force-position setpoints go; MIT goes to the motor id itself. The
+// sum is all that each is: one function of it would be called by three as long.
 pub fn pos_vel_id(motor_id: u16) -> u32
     ensures { result ≡ Spec.pos_vel_id motor_id }
 {

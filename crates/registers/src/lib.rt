@@ -89,6 +89,7 @@ static REGISTERS: [[Option<RegisterInfo>; 8]; 32] = [
 pub fn register_info(rid: u8) -> Option<RegisterInfo>
     ensures { result ≡ info_of rid }
 {
+    // by `as`, which the proof computes: the look is compared with the table whole
     REGISTERS[(rid / 8) as usize][(rid % 8) as usize]
 }
 

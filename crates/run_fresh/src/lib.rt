@@ -22,7 +22,8 @@ pub fn state_want(ask: Ask) -> Want<Message>
     ask_want(Message::RequestFeedback, ask)
 }
 
-// Past the deadline there is no state, which is no failure.
+// Past the deadline there is no state, which is no failure. Like a read's step, and not one with it for the
+// reason there.
 pub fn state_step(
     timeout: Duration,
     latest: Option<FeedbackSnapshot>,

@@ -14,6 +14,7 @@ fn call_of(line: &[u8]) -> Result<Call, Fault>
     let Some(Row(_, name, kinds)) = row_of(word_at(line, 0)) else {
         return Err(Fault::UnknownWord);
     };
+    // by hand: `zip` does not say which of the two goes on
     let mut kinds = kinds.iter();
     let mut args = [0; 9];
     for (place, word) in line.split(|byte| *byte == b' ').skip(1).enumerate() {

@@ -20,8 +20,8 @@ pub enum Kind {
     Name,
 }
 
-// The first place of `byte` in `s` from `from` on, or the end of `s`. No caller is left; two edits are of
-// its search alone, for any byte and from any place, and the other searches here have neither.
+// The first place of `byte` in `s` from `from` on, or the end of `s`. No caller is left; four edits are
+// of its search, for any byte and from any place, and the other searches here have neither.
 pub fn index_of(s: &[u8], from: usize, byte: u8) -> usize
     ensures { result ≡ from + index_of byte (drop from s.now) }
 {

@@ -36,7 +36,8 @@ pub struct Session {
 }
 
 // A session goes by value, so that it stands beside what a call tells; first, since copies of it are
-// cheaper so.
+// cheaper so. Each call by value lends its session in two lines: as one function those would take the call
+// as a closure, and ask that it can be called.
 #[derive(Clone, Copy)]
 pub struct After<T> {
     pub session: Session,

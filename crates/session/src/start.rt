@@ -42,7 +42,8 @@ fn fresh(motor_id: u16, feedback_id: u16, limits: PvTLimits) -> Session
     }
 }
 
-// A fresh session with these limits, or the refusal of a limit or of the motor id.
+// A fresh session with these limits, or the refusal of a limit or of the motor id. The two ids are the
+// head's by themselves: a struct of them would be taken apart here.
 #[tactic(auto, unfolding(crate::specs::Start::from_limits))]
 pub fn from_limits(motor_id: u16, feedback_id: u16, maxima: Maxima) -> Result<Session, Refusal>
     ensures { result ≡ Spec.from_limits motor_id feedback_id maxima }

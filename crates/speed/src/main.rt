@@ -29,201 +29,123 @@ type Sorted = [[u8; 8]; 262_144];
 
 type Taken = [[u8; 8]; 50_000];
 
-fn row<K: Inputs, F: FnOnce(&[K::Input]) -> u64>(
-    rt: &(impl Print + CpuClock),
-    name: &str,
-    kind: K,
-    timed: bool,
-    random: &mut u64,
-    inputs: &mut [K::Input],
-    work: F,
-)
-    requires { F.IsAlwaysCallable work }
-{
-    kind.fill(inputs, random);
-    let begun = clock(rt);
-    let sum = work(inputs);
-    finish(rt, name, inputs.len(), sum, begun, timed);
+// What the rows share: where they are printed, whether with times, and the random numbers, which go on
+// from row to row.
+struct Bench<'a, P> {
+    rt: &'a P,
+    is_timed: bool,
+    random: u64,
 }
 
-fn setpoint_rows(rt: &(impl Print + CpuClock), t: bool, r: &mut u64, xs: &mut Floats) {
-    let within = Numbers::Setpoints(0.0);
-    row(
-        rt,
-        "encode MIT, within the limits",
-        within,
-        t,
-        r,
-        xs,
-        protocol::encode,
-    );
-    let beyond = Numbers::Setpoints(0.25);
-    row(
-        rt,
-        "encode MIT, a third beyond",
-        beyond,
-        t,
-        r,
-        xs,
-        protocol::encode,
-    );
-}
+impl<'a, P: Print + CpuClock> Bench<'a, P> {
+    fn row<K: Inputs, F: FnOnce(&[K::Input]) -> u64>(
+        &mut self,
+        name: &str,
+        kind: K,
+        inputs: &mut [K::Input],
+        work: F,
+    )
+        requires { F.IsAlwaysCallable work }
+    {
+        kind.fill(inputs, &mut self.random);
+        let begun = clock(self.rt);
+        let sum = work(inputs);
+        finish(self.rt, name, inputs.len(), sum, begun, self.is_timed);
+    }
 
-fn model_rows(rt: &(impl Print + CpuClock), t: bool, r: &mut u64, xs: &mut Floats) {
-    let near = Numbers::Queries(1.0);
-    row(rt, "match, tolerance 1", near, t, r, xs, models::match_all);
-    let far = Numbers::Queries(20.0);
-    row(rt, "match, tolerance 20", far, t, r, xs, models::match_all);
-    let any = Numbers::Queries(0.0);
-    row(rt, "suggest three", any, t, r, xs, models::suggest_all);
-}
+    fn setpoint_rows(&mut self, xs: &mut Floats) {
+        let within = Numbers::Setpoints(0.0);
+        self.row(
+            "encode MIT, within the limits",
+            within,
+            xs,
+            protocol::encode,
+        );
+        let beyond = Numbers::Setpoints(0.25);
+        self.row("encode MIT, a third beyond", beyond, xs, protocol::encode);
+    }
 
-fn frame_rows(rt: &(impl Print + CpuClock), t: bool, r: &mut u64) {
-    let mut frames: Sorted = [[0; 8]; 262_144];
-    let fs = &mut frames;
-    row(
-        rt,
-        "decode feedback",
-        Frames::Feedback,
-        t,
-        r,
-        fs,
-        protocol::decode,
-    );
-    row(
-        rt,
-        "sort replies",
-        Frames::Replies,
-        t,
-        r,
-        fs,
-        protocol::sort,
-    );
-    row(rt, "sort acks", Frames::Acks, t, r, fs, protocol::sort);
-    row(
-        rt,
-        "sort feedback",
-        Frames::Feedback,
-        t,
-        r,
-        fs,
-        protocol::sort,
-    );
-    let low = Frames::LowFeedback;
-    row(
-        rt,
-        "sort feedback, d1 up to 0F",
-        low,
-        t,
-        r,
-        fs,
-        protocol::sort,
-    );
-    let unknown = Frames::UnknownRegisters;
-    row(
-        rt,
-        "sort unknown registers",
-        unknown,
-        t,
-        r,
-        fs,
-        protocol::sort,
-    );
-    row(
-        rt,
-        "sort, a third of each class",
-        Frames::Mixed,
-        t,
-        r,
-        fs,
-        protocol::sort,
-    );
-}
+    fn model_rows(&mut self, xs: &mut Floats) {
+        let near = Numbers::Queries(1.0);
+        self.row("match, tolerance 1", near, xs, models::match_all);
+        let far = Numbers::Queries(20.0);
+        self.row("match, tolerance 20", far, xs, models::match_all);
+        let any = Numbers::Queries(0.0);
+        self.row("suggest three", any, xs, models::suggest_all);
+    }
 
-fn session_rows(rt: &(impl Print + CpuClock), t: bool, r: &mut u64) {
-    let mut frames: Taken = [[0; 8]; 50_000];
-    let fs = &mut frames;
-    row(
-        rt,
-        "take feedback frames, lent",
-        Frames::Feedback,
-        t,
-        r,
-        fs,
-        lent::take_lent,
-    );
-    row(
-        rt,
-        "take replies, lent",
-        Frames::Replies,
-        t,
-        r,
-        fs,
-        lent::take_lent,
-    );
-    row(
-        rt,
-        "take, a third of each class, lent",
-        Frames::Mixed,
-        t,
-        r,
-        fs,
-        lent::take_lent,
-    );
-    row(
-        rt,
-        "take feedback frames, by value",
-        Frames::Feedback,
-        t,
-        r,
-        fs,
-        sessions::take,
-    );
-    row(
-        rt,
-        "take replies, by value",
-        Frames::Replies,
-        t,
-        r,
-        fs,
-        sessions::take,
-    );
-    row(
-        rt,
-        "take, a third of each class, by value",
-        Frames::Mixed,
-        t,
-        r,
-        fs,
-        sessions::take,
-    );
-    row(
-        rt,
-        "a register read",
-        Frames::Feedback,
-        t,
-        r,
-        fs,
-        |frames: &[[u8; 8]]| runs::run_all(Kind::Read, frames),
-    );
-    row(
-        rt,
-        "a confirmed write",
-        Frames::Feedback,
-        t,
-        r,
-        fs,
-        |frames: &[[u8; 8]]| runs::run_all(Kind::Write, frames),
-    );
-    row(
-        rt,
-        "a mode switch",
-        Frames::Feedback,
-        t,
-        r,
-        fs,
-        |frames: &[[u8; 8]]| runs::run_all(Kind::Switch, frames),
-    );
+    fn frame_rows(&mut self) {
+        let mut frames: Sorted = [[0; 8]; 262_144];
+        let fs = &mut frames;
+        self.row("decode feedback", Frames::Feedback, fs, protocol::decode);
+        self.row("sort replies", Frames::Replies, fs, protocol::sort);
+        self.row("sort acks", Frames::Acks, fs, protocol::sort);
+        self.row("sort feedback", Frames::Feedback, fs, protocol::sort);
+        let low = Frames::LowFeedback;
+        self.row("sort feedback, d1 up to 0F", low, fs, protocol::sort);
+        let unknown = Frames::UnknownRegisters;
+        self.row("sort unknown registers", unknown, fs, protocol::sort);
+        self.row(
+            "sort, a third of each class",
+            Frames::Mixed,
+            fs,
+            protocol::sort,
+        );
+    }
+
+    fn session_rows(&mut self) {
+        let mut frames: Taken = [[0; 8]; 50_000];
+        let fs = &mut frames;
+        self.row(
+            "take feedback frames, lent",
+            Frames::Feedback,
+            fs,
+            lent::take_lent,
+        );
+        self.row("take replies, lent", Frames::Replies, fs, lent::take_lent);
+        self.row(
+            "take, a third of each class, lent",
+            Frames::Mixed,
+            fs,
+            lent::take_lent,
+        );
+        self.row(
+            "take feedback frames, by value",
+            Frames::Feedback,
+            fs,
+            sessions::take,
+        );
+        self.row(
+            "take replies, by value",
+            Frames::Replies,
+            fs,
+            sessions::take,
+        );
+        self.row(
+            "take, a third of each class, by value",
+            Frames::Mixed,
+            fs,
+            sessions::take,
+        );
+        self.row(
+            "a register read",
+            Frames::Feedback,
+            fs,
+            |frames: &[[u8; 8]]| runs::run_all(Kind::Read, frames),
+        );
+        self.row(
+            "a confirmed write",
+            Frames::Feedback,
+            fs,
+            |frames: &[[u8; 8]]| runs::run_all(Kind::Write, frames),
+        );
+        self.row(
+            "a mode switch",
+            Frames::Feedback,
+            fs,
+            |frames: &[[u8; 8]]| runs::run_all(Kind::Switch, frames),
+        );
+    }
 }
 
 // The seed that the first argument is, if there is one.
@@ -233,13 +155,17 @@ fn argument(rt: &impl Env) -> Option<u64> {
     script_words::number(&word[..len])
 }
 
-fn rows(rt: &(impl Print + CpuClock), seed: u64, timed: bool) {
-    let mut random = seed.wrapping_add(0x9E37_79B9_7F4A_7C15);
+fn rows(rt: &(impl Print + CpuClock), seed: u64, is_timed: bool) {
+    let mut bench = Bench {
+        rt,
+        is_timed,
+        random: seed.wrapping_add(0x9E37_79B9_7F4A_7C15),
+    };
     let mut xs: Floats = [[0.0; 5]; 65_536];
-    setpoint_rows(rt, timed, &mut random, &mut xs);
-    frame_rows(rt, timed, &mut random);
-    model_rows(rt, timed, &mut random, &mut xs);
-    session_rows(rt, timed, &mut random);
+    bench.setpoint_rows(&mut xs);
+    bench.frame_rows();
+    bench.model_rows(&mut xs);
+    bench.session_rows();
 }
 
 fn main(rt: HostRuntime) {

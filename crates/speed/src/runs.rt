@@ -125,6 +125,7 @@ fn answered(line: &mut Line) {
 
 // A run whose frames are answered at once is over after so many answers.
 fn answer_all(line: &mut Line, count: u64) {
+    // nothing is indexed
     for _ in 0..count {
         answered(line);
     }

@@ -41,7 +41,7 @@ impl Entry {
 pub fn slot_place(rid: u8) -> usize
     ensures { result ≡ Spec.slot_place rid }
 {
-    if rid < 82 { rid as usize } else { 0 }
+    if rid < 82 { usize::from(rid) } else { 0 }
 }
 
 // What is in a register's slot; for a number from 82 on nothing.

@@ -1,5 +1,6 @@
 // `ensure_control_mode` around its writes of the mode: the confirmed write, the settling sleep, and on to
-// the verifying read. `verifies_left` is the number of verifying reads after the next one.
+// the verifying read. `verifies_left` is the number of verifying reads after the next one, and goes beside
+// the progress for the reason in `switch_step`.
 #![tactic(auto)]
 
 ghost use Rattle.std.specs.Prelude.{◌≡◌};
