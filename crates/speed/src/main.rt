@@ -31,6 +31,7 @@ type Taken = [[u8; 8]; 50_000];
 
 // What the rows share: where they are printed, whether with times, and the random numbers, which go on
 // from row to row.
+#[derive(Drop)]
 struct Bench<'a, P> {
     rt: &'a P,
     is_timed: bool,
