@@ -1,8 +1,7 @@
--- A frame as it is sorted and read, from what the lookup of its register says. Assumes nothing.
+-- A frame as it is sorted, from what the lookup of its register says. Assumes nothing.
 use Rattle.motor_core.proofs.Turned.{clash}
 use mathlib.Core.Path.{◌≡◌, refl, sym, ap, ◌∙◌}
-use mathlib.Core.Bool.{Bool, true, false, ◌&&◌, ◌||◌, cond}
-use lib.Dec.{leb, eqb}
+use mathlib.Core.Bool.{Bool, true, false, cond}
 use mathlib.Core.List.{List}
 use Prim.Native.Nat.{ℕ}
 use Rattle.std.specs.Prelude.{Option, Some, None}
@@ -10,16 +9,16 @@ use Rattle.motor_core.specs.declared.model.PvTLimits.{PvTLimits}
 use Rattle.registers.specs.Registers.{known, data_type_of, info_of}
 use Rattle.registers.specs.declared.RegisterDataType.{RegisterDataType}
 use Rattle.registers.specs.declared.RegisterInfo.{RegisterInfo}
-use Rattle.registers.specs.declared.RegisterValue.{RegisterValue}
 use Rattle.registers.proofs.Codes.{info, info_known}
-use Rattle.protocol_received.proofs.Classes.{unmarked, unlisted, marked}
 use Rattle.protocol_frame.specs.Layout.{d}
 use Rattle.protocol_feedback.specs.Feedback.{feedback_of}
-use Rattle.protocol_received.specs.Received.{class_of, typed_value, register_value, register_of, by_class, received}
+use Rattle.protocol_received.specs.Received.{class_of, typed_value, register_value, sorted_as, sorted, by_class, received}
 use Rattle.protocol_received.specs.declared.FrameClass.{FrameClass}
 use Rattle.protocol_received.specs.declared.FrameClass.TheVariants as Class
 use Rattle.protocol_received.specs.declared.Received.{Received}
 use Rattle.protocol_received.specs.declared.Received.TheVariants as Receive
+use Rattle.protocol_received.specs.declared.Sorted.{Sorted}
+use Rattle.protocol_received.specs.declared.Sorted.TheVariants as Sort
 
 module _ (rid : ℕ) (found : Option RegisterInfo) (looked : found ≡ info_of rid) where
   info_unknown : known rid ≡ false → info_of rid ≡ None
@@ -43,45 +42,38 @@ module _ (rid : ℕ) (found : Option RegisterInfo) (looked : found ≡ info_of r
       go true k = (k, ap (λ (r : RegisterInfo). r.data_type) (the_same x (sym e ∙ looked ∙ info_known rid k)))
       go false k = absurd (clash (cc (info_unknown k)))
 
-module _ (bytes : List ℕ) (found : Option RegisterInfo) (is : found ≡ register_of bytes) where
-  abbrev is_marked : Bool
-  is_marked = leb (d bytes 1) 0x0f && (eqb (d bytes 2) 0x33 || eqb (d bytes 2) 0x55)
+-- by its class, and the type that was looked up
+pub sorted_by : (bytes : List ℕ) (k : FrameClass) (t : RegisterDataType) → k ≡ class_of bytes → t ≡ data_type_of (d bytes 3) → sorted_as k t ≡ sorted bytes
+unfolding sorted
+sorted_by bytes k t e f = λ i. sorted_as (e i) (f i)
 
-  pub no_register : found ≡ None → Class.Feedback ≡ class_of bytes
-  no_register e = go is_marked refl
+-- the class alone
+abbrev pub class_in : Sorted → FrameClass
+class_in (Sort.Reply type) = Class.Reply
+class_in (Sort.Ack type) = Class.Ack
+class_in Sort.Feedback = Class.Feedback
+
+-- and what is read by it
+abbrev pub read_as : Sorted → PvTLimits → List ℕ → Received
+read_as (Sort.Reply type) l bytes = Receive.Reply (d bytes 3) (typed_value type bytes)
+read_as (Sort.Ack type) l bytes = Receive.Ack (d bytes 3) (typed_value type bytes)
+read_as Sort.Feedback l bytes = Receive.Feedback (feedback_of l bytes)
+
+module _ (bytes : List ℕ) (s : Sorted) (is : s ≡ sorted bytes) where
+  pub sorted_class : class_in s ≡ class_of bytes
+  unfolding sorted
+  sorted_class = ap class_in is ∙ go (class_of bytes)
     where
-      go : (b : Bool) → is_marked ≡ b → Class.Feedback ≡ class_of bytes
-      go false m = unmarked _ _ _ m
-      go true m = unlisted _ _ _ (not_known (d bytes 3) found (is ∙ ap (λ (b : Bool). cond b (info_of (d bytes 3)) None) m) e)
+      go : (k : FrameClass) → class_in (sorted_as k (data_type_of (d bytes 3))) ≡ k
+      go Class.Reply = refl
+      go Class.Ack = refl
+      go Class.Feedback = refl
 
-  pub a_register : (x : RegisterInfo) (reply : Bool) → found ≡ Some x → eqb (d bytes 2) 0x33 ≡ reply → (cond reply Class.Reply Class.Ack ≡ class_of bytes) × (x.data_type ≡ data_type_of (d bytes 3))
-  a_register x reply e f = go is_marked refl
+  pub sorted_read : (l : PvTLimits) → read_as s l bytes ≡ received l bytes
+  unfolding sorted received register_value
+  sorted_read l = ap (λ (x : Sorted). read_as x l bytes) is ∙ go (class_of bytes)
     where
-      go : (b : Bool) → is_marked ≡ b → (cond reply Class.Reply Class.Ack ≡ class_of bytes) × (x.data_type ≡ data_type_of (d bytes 3))
-      go false m =
-          let none : None ≡ Some x = sym (is ∙ ap (λ (b : Bool). cond b (info_of (d bytes 3)) None) m) ∙ e in
-          absurd (clash (cc none))
-      go true m =
-          let known = is_known (d bytes 3) found (is ∙ ap (λ (b : Bool). cond b (info_of (d bytes 3)) None) m) x e in
-          (marked _ _ _ reply m known.0 f, known.1)
-
-  pub feedback_read : (l : PvTLimits) → found ≡ None → Receive.Feedback (feedback_of l bytes) ≡ received l bytes
-  unfolding received
-  feedback_read l e = ap (λ (k : FrameClass). by_class k l bytes) (no_register e)
-
-  -- what a reply and an ack say of the register in d3
-  abbrev said : Bool → RegisterValue → Received
-  said true value = Receive.Reply (d bytes 3) value
-  said false value = Receive.Ack (d bytes 3) value
-
-  pub value_read : (x : RegisterInfo) (reply : Bool) (value : RegisterValue) (l : PvTLimits) → found ≡ Some x → eqb (d bytes 2) 0x33 ≡ reply → value ≡ typed_value x.data_type bytes → said reply value ≡ received l bytes
-  unfolding received register_value
-  value_read x reply value l e f typed =
-      let register = a_register x reply e f in
-      ap (said reply) (typed ∙ ap (λ (t : RegisterDataType). typed_value t bytes) register.1)
-      ∙ go reply
-      ∙ ap (λ (k : FrameClass). by_class k l bytes) register.0
-    where
-      go : (b : Bool) → said b (typed_value (data_type_of (d bytes 3)) bytes) ≡ by_class (cond b Class.Reply Class.Ack) l bytes
-      go true = refl
-      go false = refl
+      go : (k : FrameClass) → read_as (sorted_as k (data_type_of (d bytes 3))) l bytes ≡ by_class k l bytes
+      go Class.Reply = refl
+      go Class.Ack = refl
+      go Class.Feedback = refl

@@ -1,15 +1,16 @@
 -- What a received frame says. Its data bytes d0 to d7 are a list. Definitions only.
-use Rattle.std.specs.Prelude.{ℕ, ◌+◌, ◌*◌, ◌&&◌, ◌||◌, cond, List, leb, eqb, Option, None}
+use Rattle.std.specs.Prelude.{ℕ, ◌+◌, ◌*◌, ◌&&◌, cond, List, leb, eqb}
 use Rattle.motor_core.specs.declared.model.PvTLimits.{PvTLimits}
-use Rattle.registers.specs.Registers.{registers, elem, data_type_of, info_of}
+use Rattle.registers.specs.Registers.{registers, elem, data_type_of}
 use Rattle.registers.specs.Value.{value_of}
 use Rattle.registers.specs.declared.RegisterDataType.{RegisterDataType}
-use Rattle.registers.specs.declared.RegisterInfo.{RegisterInfo}
 use Rattle.registers.specs.declared.RegisterValue.{RegisterValue}
 use Rattle.protocol_frame.specs.Layout.{d}
 use Rattle.protocol_feedback.specs.Feedback.{feedback_of}
 use Rattle.protocol_received.specs.declared.FrameClass.{FrameClass}
 use Rattle.protocol_received.specs.declared.FrameClass.TheVariants as Class
+use Rattle.protocol_received.specs.declared.Sorted.{Sorted}
+use Rattle.protocol_received.specs.declared.Sorted.TheVariants as Sort
 use Rattle.protocol_received.specs.declared.Received.{Received}
 use Rattle.protocol_received.specs.declared.Received.TheVariants as Receive
 
@@ -31,9 +32,14 @@ typed_value type bytes = value_of type (d bytes 4 + d bytes 5 * 0x100 + d bytes 
 unfoldable pub register_value : List ℕ → RegisterValue
 register_value bytes = typed_value (data_type_of (d bytes 3)) bytes
 
--- the register in d3 of a reply or an ack, as the code looks it up
-abbrev pub register_of : List ℕ → Option RegisterInfo
-register_of bytes = cond (leb (d bytes 1) 0x0f && (eqb (d bytes 2) 0x33 || eqb (d bytes 2) 0x55)) (info_of (d bytes 3)) None
+-- a frame's class, with the type of the register in d3
+abbrev pub sorted_as : FrameClass → RegisterDataType → Sorted
+sorted_as Class.Reply type = Sort.Reply type
+sorted_as Class.Ack type = Sort.Ack type
+sorted_as Class.Feedback type = Sort.Feedback
+
+unfoldable pub sorted : List ℕ → Sorted
+sorted bytes = sorted_as (class_of bytes) (data_type_of (d bytes 3))
 
 abbrev pub by_class : FrameClass → PvTLimits → List ℕ → Received
 by_class Class.Reply l bytes = Receive.Reply (d bytes 3) (register_value bytes)

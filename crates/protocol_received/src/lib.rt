@@ -6,13 +6,22 @@ ghost use Rattle.protocol_received.specs.Received as Spec;
 
 use motor_core::model::PvTLimits;
 use protocol_feedback::{SensorFeedback, decode_sensor_feedback};
-use registers::{RegisterDataType, RegisterInfo, RegisterValue};
+use registers::{RegisterDataType, RegisterValue};
 
 // As a `Received` of nothing a class would be `Reply(())`.
 #[derive(Clone, Copy)]
 pub enum FrameClass {
     Reply,
     Ack,
+    Feedback,
+}
+
+// The class of a frame, with the type of the register that it names. As the register that is looked up, an
+// `Option`, it takes a nanosecond more to sort a frame, which then misses the Rust's time.
+#[derive(Clone, Copy)]
+pub enum Sorted {
+    Reply(RegisterDataType),
+    Ack(RegisterDataType),
     Feedback,
 }
 
@@ -37,24 +46,29 @@ fn marks_register(d1: u8, d2: u8) -> bool
     d1 <= 0x0f && (d2 == REPLY || d2 == ACK)
 }
 
-// The register of a reply or an ack; none of a feedback. It is looked up once, for the class and for
-// the type.
-fn register_of(data: [u8; 8]) -> Option<RegisterInfo>
-    ensures { result ≡ Spec.register_of «data» }
+// The register is looked up once, for the class and for the type.
+fn sort_frame(data: [u8; 8]) -> Sorted
+    ensures { result ≡ Spec.sorted «data» }
 {
-    if !marks_register(data[1], data[2]) {
-        return None;
+    let marker = data[2];
+    if !marks_register(data[1], marker) {
+        return Sorted::Feedback;
     }
-    registers::register_info(data[3])
+    match registers::register_info(data[3]) {
+        None => Sorted::Feedback,
+        Some(info) if marker == REPLY => Sorted::Reply(info.data_type),
+        Some(info) => Sorted::Ack(info.data_type),
+    }
 }
 
 pub fn frame_class(data: [u8; 8]) -> FrameClass
     ensures { result ≡ Spec.class_of «data» }
 {
-    match register_of(data) {
-        None => FrameClass::Feedback,
-        Some(_) if data[2] == REPLY => FrameClass::Reply,
-        Some(_) => FrameClass::Ack,
+    let sorted = sort_frame(data);
+    match sorted {
+        Sorted::Reply(_) => FrameClass::Reply,
+        Sorted::Ack(_) => FrameClass::Ack,
+        Sorted::Feedback => FrameClass::Feedback,
     }
 }
 
@@ -70,12 +84,10 @@ fn register_value(data: [u8; 8], data_type: RegisterDataType) -> RegisterValue
 pub fn read_frame(data: [u8; 8], limits: PvTLimits) -> Received
     ensures { result ≡ Spec.received limits «data» }
 {
-    let Some(info) = register_of(data) else {
-        return Received::Feedback(decode_sensor_feedback(data, limits));
-    };
-    let value = register_value(data, info.data_type);
-    if data[2] == REPLY {
-        return Received::Reply(data[3], value);
+    let sorted = sort_frame(data);
+    match sorted {
+        Sorted::Reply(data_type) => Received::Reply(data[3], register_value(data, data_type)),
+        Sorted::Ack(data_type) => Received::Ack(data[3], register_value(data, data_type)),
+        Sorted::Feedback => Received::Feedback(decode_sensor_feedback(data, limits)),
     }
-    Received::Ack(data[3], value)
 }

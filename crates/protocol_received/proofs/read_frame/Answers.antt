@@ -1,16 +1,16 @@
 -- `protocol_received::read_frame` meets its contract. Assumes nothing.
-use mathlib.Core.Path.{ap, ◌∙◌}
-use mathlib.Core.Bool.{true, false}
-use borrow.Author.Tests.{eq-eqb, ne_eqb}
-use Rattle.protocol_received.specs.declared.Received.TheVariants.{Feedback}
-use Rattle.protocol_received.proofs.Sorting.{feedback_read, value_read}
+use mathlib.Core.Path.{sym, ap, ◌∙◌}
+use Rattle.protocol_received.specs.declared.Received.TheVariants.{Reply, Ack, Feedback}
+use Rattle.protocol_frame.specs.Layout.{d}
+use Rattle.protocol_received.specs.declared.Sorted.{Sorted}
+use Rattle.protocol_received.proofs.Sorting.{read_as, sorted_read}
 use Rattle.protocol_received.proofs.read_frame.Goals as goal
 
-pub returns-in_default : goal.returns-in_default
-returns-in_default c = ap Feedback c.decode_sensor_feedback.ensures ∙ feedback_read c.args.«data» _ c.register_of.ensures c.args.limits c.in_default.is
+pub returns-in-Reply : goal.returns-in-Reply
+returns-in-Reply c = ap (Reply (d c.args.«data» 3)) c.register_value.ensures ∙ ap (λ (s : Sorted). read_as s c.args.limits c.args.«data») (sym c.in-Reply.is) ∙ sorted_read c.args.«data» _ c.sort_frame-sorted.ensures c.args.limits
 
-pub returns-then-data-eq-REPLY : goal.returns-then-data-eq-REPLY
-returns-then-data-eq-REPLY c = value_read c.args.«data» _ c.register_of.ensures _ true _ c.args.limits c.in-Some.is (eq-eqb _ _ c.if-data-eq-REPLY.true) c.register_value-value.ensures
+pub returns-in-Ack : goal.returns-in-Ack
+returns-in-Ack c = ap (Ack (d c.args.«data» 3)) c.register_value-in-Ack.ensures ∙ ap (λ (s : Sorted). read_as s c.args.limits c.args.«data») (sym c.in-Ack.is) ∙ sorted_read c.args.«data» _ c.sort_frame-sorted.ensures c.args.limits
 
-pub returns : goal.returns
-returns c = value_read c.args.«data» _ c.register_of.ensures _ false _ c.args.limits c.in-Some.is (ne_eqb _ _ c.if-data-eq-REPLY.false) c.register_value-value.ensures
+pub returns-in-Feedback : goal.returns-in-Feedback
+returns-in-Feedback c = ap Feedback c.decode_sensor_feedback.ensures ∙ ap (λ (s : Sorted). read_as s c.args.limits c.args.«data») (sym c.in-Feedback.is) ∙ sorted_read c.args.«data» _ c.sort_frame-sorted.ensures c.args.limits
