@@ -11,8 +11,7 @@ use motor_core::error::Refusal;
 use motor_core::model::Maxima;
 
 // Whether the two are no further apart than the tolerance.
-// By two tests: `abs` makes two of its own, and with it matching at tolerance 20 misses the Rust's time,
-// which these meet.
+// By two tests: `abs` makes two of its own beside the one of the tolerance, and a match takes a fifth longer.
 #[tactic(auto, using(crate::proofs::Magnitude::first_fails, crate::proofs::Magnitude::second_test), unfolding(crate::specs::Matching::within))]
 fn within(tol: f32, x: f32, y: f32) -> bool
     ensures { result ≡ Spec.within tol x y }
