@@ -15,11 +15,10 @@ fn code(name: &Name) -> u64 {
 }
 
 fn names_total(names: &Names) -> u64 {
-    let mut sum: u64 = 0;
-    for name in names.as_slice() {
-        sum = mixed(sum, code(name));
-    }
-    sum
+    names
+        .as_slice()
+        .iter()
+        .fold(0, |sum, name| mixed(sum, code(name)))
 }
 
 fn query(input: [f32; 5]) -> Query {
@@ -41,18 +40,14 @@ fn suggested_total(list: &ModelList, input: [f32; 5]) -> u64 {
 
 pub(crate) fn match_all(inputs: &[[f32; 5]]) -> u64 {
     let list = damiao_models();
-    let mut sum = 0;
-    for input in inputs {
-        sum = mixed(sum, matched_total(&list, *input));
-    }
-    sum
+    inputs
+        .iter()
+        .fold(0, |sum, input| mixed(sum, matched_total(&list, *input)))
 }
 
 pub(crate) fn suggest_all(inputs: &[[f32; 5]]) -> u64 {
     let list = damiao_models();
-    let mut sum = 0;
-    for input in inputs {
-        sum = mixed(sum, suggested_total(&list, *input));
-    }
-    sum
+    inputs
+        .iter()
+        .fold(0, |sum, input| mixed(sum, suggested_total(&list, *input)))
 }

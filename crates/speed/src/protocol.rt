@@ -5,7 +5,7 @@ use protocol_feedback::{SensorFeedback, decode_sensor_feedback};
 use protocol_received::{FrameClass, frame_class};
 use protocol_setpoint::{MitSetpoint, encode_mit_cmd};
 
-const MAXIMA_4310: Maxima = Maxima {
+pub(crate) const MAXIMA_4310: Maxima = Maxima {
     p_max: 12.5,
     v_max: 30.0,
     t_max: 10.0,
@@ -22,11 +22,9 @@ fn setpoint(input: [f32; 5]) -> MitSetpoint {
 }
 
 fn encode_with(limits: PvTLimits, inputs: &[[f32; 5]]) -> u64 {
-    let mut sum = 0;
-    for input in inputs {
-        sum = mixed(sum, encode_mit_cmd(setpoint(*input), limits));
-    }
-    sum
+    inputs.iter().fold(0, |sum, input| {
+        mixed(sum, encode_mit_cmd(setpoint(*input), limits))
+    })
 }
 
 pub(crate) fn encode(inputs: &[[f32; 5]]) -> u64 {
@@ -38,12 +36,10 @@ fn reading(f: SensorFeedback) -> f32 {
 }
 
 fn decode_with(limits: PvTLimits, frames: &[[u8; 8]]) -> u64 {
-    let mut sum = 0;
-    for data in frames {
+    frames.iter().fold(0, |sum, data| {
         let feedback = decode_sensor_feedback(*data, limits);
-        sum = mixed(sum, float_bits(reading(feedback)));
-    }
-    sum
+        mixed(sum, float_bits(reading(feedback)))
+    })
 }
 
 pub(crate) fn decode(frames: &[[u8; 8]]) -> u64 {
@@ -59,9 +55,5 @@ fn class_number(class: FrameClass) -> u64 {
 }
 
 pub(crate) fn sort(frames: &[[u8; 8]]) -> u64 {
-    let mut sum = 0;
-    for data in frames {
-        sum = mixed(sum, class_number(frame_class(*data)));
-    }
-    sum
+    frames.iter().fold(0, |sum, data| mixed(sum, class_number(frame_class(*data))))
 }

@@ -1,7 +1,7 @@
 // A session of motor 1, model 4310, takes frames. The checksum has everything that a frame may change.
+use crate::protocol::MAXIMA_4310;
 use crate::sums::{float_bits, mixed};
 use motor_core::bus::CanFrame;
-use motor_core::model::Maxima;
 use registers::{RegisterValue, holds_u32, value_bits};
 use session::Session;
 use session::start::from_limits;
@@ -11,12 +11,7 @@ use state_feedback::{FeedbackSnapshot, MotorFeedbackState};
 use time::Instant;
 
 pub(crate) fn session_4310() -> Option<Session> {
-    let maxima = Maxima {
-        p_max: 12.5,
-        v_max: 30.0,
-        t_max: 10.0,
-    };
-    from_limits(1, 0x11, maxima).ok()
+    from_limits(1, 0x11, MAXIMA_4310).ok()
 }
 
 pub(crate) fn frame_of(data: [u8; 8]) -> CanFrame {
@@ -70,11 +65,9 @@ fn floats_total(s: MotorFeedbackState) -> u64 {
 }
 
 fn entries_total(entries: &[Entry]) -> u64 {
-    let mut sum: u64 = 0;
-    for entry in entries {
-        sum = mixed(sum, entry_total(*entry));
-    }
-    sum
+    entries
+        .iter()
+        .fold(0, |sum, entry| mixed(sum, entry_total(*entry)))
 }
 
 fn entry_total(entry: Entry) -> u64 {
