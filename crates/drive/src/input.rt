@@ -13,7 +13,7 @@ pub(crate) struct Line<'a> {
     pub(crate) number: u64,
 }
 
-// The bytes that are read and not taken lie from `next` to `filled`.
+// The bytes that are read and not taken lie from `next` to `filled`, in a fixed buffer as a page is.
 #[derive(Drop)]
 pub(crate) struct Input {
     bytes: [u8; BUFFER],

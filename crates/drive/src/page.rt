@@ -8,7 +8,8 @@ use std::io::{self, Print};
 // session that holds every entry, has some 4,000 bytes.
 const FULL: usize = 49_152;
 
-// What does not fit is dropped.
+// What does not fit is dropped. A fixed buffer, so that nothing that is written asks for memory, which can
+// fail.
 #[derive(Drop)]
 pub(crate) struct Page {
     bytes: [u8; BUFFER],

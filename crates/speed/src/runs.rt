@@ -21,6 +21,7 @@ const READ_TIMEOUT: Duration = Duration(100_000_000);
 
 const SWITCH_TIMEOUT: Duration = Duration(400_000_000);
 
+// As closures the three would each take the line, the frame and the place.
 #[derive(Clone, Copy)]
 pub(crate) enum Kind {
     Read,
