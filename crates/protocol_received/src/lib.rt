@@ -17,7 +17,7 @@ pub enum FrameClass {
 }
 
 // The class of a frame, with the type of the register that it names. As the register that is looked up, an
-// `Option`, it takes a nanosecond more to sort a frame, which then misses the Rust's time.
+// `Option`, sorting takes a nanosecond more, and of feedback with d1 up to 0F misses the Rust's time.
 #[derive(Clone, Copy)]
 pub enum Sorted {
     Reply(RegisterDataType),

@@ -101,7 +101,7 @@ fn mode_time(
 }
 
 // `entry` is what the stage's place holds. What a stage counts goes beside the progress: as a struct the
-// two would be put together in each arm here and taken apart by each `goes`. Of mode and timeout most
+// two would be put together in six arms here and taken apart by each `goes`. Of mode and timeout most
 // functions want one.
 fn stage_step(
     mode: ControlMode,
