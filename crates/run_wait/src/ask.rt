@@ -35,6 +35,7 @@ pub fn ask_step(length: Duration, ask: Ask, answer: Answer) -> Result<Waited<Ask
             send_outcome(answer)?;
             Ok(Waited::Looks(opening))
         }
+        // by its cases, for the reason at `Waited`
         Ask::Waiting(wait) => match wait_step(length, wait, answer) {
             Waited::Goes(next) => Ok(Waited::Goes(Ask::Waiting(next))),
             Waited::Looks(opening) => Ok(Waited::Looks(opening)),

@@ -44,8 +44,8 @@ fn answer_lent(session: &mut Session, answer: Answer) -> Result<Told, Refusal>
     Ok(step.told)
 }
 
-// The same for a session that goes by value: it is lent for the answer and handed back. Inlined, it copies
-// the session less often.
+// The same for a session that goes by value: it is lent for the answer and handed back, in two lines for the
+// reason at `After`. Inlined, it copies the session less often.
 #[inline(always)]
 pub fn answer_run(mut session: Session, answer: Answer) -> AfterCall
     ensures { result ≡ Spec.answer_run session answer }

@@ -35,7 +35,8 @@ fn begin_lent(session: &mut Session, start: Result<Machine, Refusal>) -> Result<
     Ok(Told::Want(caller_want(session.head, machine_want(machine))))
 }
 
-// The same for a session that goes by value: it is lent for the start and handed back.
+// The same for a session that goes by value: it is lent for the start and handed back, in two lines for the
+// reason at `After`.
 fn begin(mut session: Session, start: Result<Machine, Refusal>) -> AfterCall
     ensures { result ≡ Spec.begin session start }
 {

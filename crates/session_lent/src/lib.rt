@@ -33,7 +33,8 @@ pub fn process_feedback_frame(
     Ok(())
 }
 
-// The same for a session that goes by value: it is lent for the frame and handed back.
+// The same for a session that goes by value: it is lent for the frame and handed back, in two lines for the
+// reason at `After`.
 pub fn take_frame(mut session: Session, frame: CanFrame, reading: Instant) -> AfterFrame
     ensures { result ≡ take_frame session frame reading }
 {
