@@ -5,17 +5,16 @@ use mathlib.Core.List.{List, [], ◌∷◌, ◌++◌, append_assoc}
 use native.Mathlib.Omega.{arith}
 use lib.ListN.{length, take, set, replicate, length-append}
 use lib.Seq.{set-append_seam, take-append_seam}
-use Rattle.motor_core.specs.Name.{name_of}
 use Rattle.motor_core.specs.declared.name.Name.{Name}
-use Rattle.model_list.specs.Places.{model_places, in_places, OnlyFirst}
+use Rattle.model_list.specs.Places.{model_places, empty_place, in_places, OnlyFirst}
 
 set_next : (xs : List Name) (x : Name) → length xs < model_places → set (in_places xs) (length xs) x ≡ in_places (xs ++ (x ∷ []))
 unfolding in_places
 set_next xs x h =
-    ap (λ (k : ℕ). set (xs ++ replicate k (name_of "")) (length xs) x) (one_less (length xs) h)
-    ∙ set-append_seam xs (name_of "") (replicate (model_places - suc (length xs)) (name_of "")) x
-    ∙ sym (append_assoc xs (x ∷ []) (replicate (model_places - suc (length xs)) (name_of "")))
-    ∙ ap (λ (k : ℕ). (xs ++ (x ∷ [])) ++ replicate k (name_of "")) (rest (length xs) (length (xs ++ (x ∷ []))) (length-append xs (x ∷ [])))
+    ap (λ (k : ℕ). set (xs ++ replicate k empty_place) (length xs) x) (one_less (length xs) h)
+    ∙ set-append_seam xs empty_place (replicate (model_places - suc (length xs)) empty_place) x
+    ∙ sym (append_assoc xs (x ∷ []) (replicate (model_places - suc (length xs)) empty_place))
+    ∙ ap (λ (k : ℕ). (xs ++ (x ∷ [])) ++ replicate k empty_place) (rest (length xs) (length (xs ++ (x ∷ []))) (length-append xs (x ∷ [])))
   where
     one_less : (n : ℕ) → n < model_places → model_places - n ≡ suc (model_places - suc n)
     one_less n h = omega arith

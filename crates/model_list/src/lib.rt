@@ -14,6 +14,11 @@ use std::marker::Model;
 // How many models a list has room for, and so how many names an answer has.
 pub const MODEL_PLACES: usize = 16;
 
+const EMPTY_PLACE: Name = Name {
+    bytes: [0; 15],
+    len: 0,
+};
+
 #[derive(Clone, Copy)]
 pub struct MotorModelSpec {
     pub model: Name,
@@ -70,7 +75,7 @@ impl Names {
         ensures { result ≡ [] }
     {
         Names {
-            names: [Name::new(b""); MODEL_PLACES],
+            names: [EMPTY_PLACE; MODEL_PLACES],
             count: 0,
         }
     }

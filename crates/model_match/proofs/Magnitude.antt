@@ -39,7 +39,8 @@ negative_too m e (fin true n d) = go (eqb (m * up e * down d) (n * up d * down e
     go true false false = refl
     go false above none = refl
 
-magnitude_le : (d t : Float) → (le d t && le (neg d) t) ≡ le (magnitude d) t
+-- the code's two tests
+pub magnitude_le : (d t : Float) → (le d t && le (neg d) t) ≡ le (magnitude d) t
 unfolding le lt eq neg magnitude
 magnitude_le nan t = refl
 magnitude_le (inf true) nan = refl
@@ -52,10 +53,3 @@ magnitude_le (inf false) (inf false) = refl
 magnitude_le (inf false) (fin s n d) = refl
 magnitude_le (fin false m e) t = negative_too m e t
 magnitude_le (fin true m e) t = and_comm (le (fin true m e) t) (le (fin false m e) t) ∙ negative_too m e t
-
--- the code's two tests: the second where the first holds
-pub second_test : (d t : Float) → le d t ≡ true → le (neg d) t ≡ le (magnitude d) t
-second_test d t h = ap (λ (b : Bool). b && le (neg d) t) (sym h) ∙ magnitude_le d t
-
-pub first_fails : (d t : Float) → le d t ≡ false → le d t ≡ le (magnitude d) t
-first_fails d t h = h ∙ ap (λ (b : Bool). b && le (neg d) t) (sym h) ∙ magnitude_le d t

@@ -12,12 +12,12 @@ use motor_core::model::Maxima;
 
 // Whether the two are no further apart than the tolerance.
 // By two tests: `abs` makes two of its own beside the one of the tolerance, and a match takes a fifth longer.
-#[tactic(auto, using(crate::proofs::Magnitude::first_fails, crate::proofs::Magnitude::second_test), unfolding(crate::specs::Matching::within))]
+#[tactic(auto, using(crate::proofs::Magnitude::magnitude_le), unfolding(crate::specs::Matching::within))]
 fn within(tol: f32, x: f32, y: f32) -> bool
     ensures { result ≡ Spec.within tol x y }
 {
     let d = x - y;
-    d <= tol && -d <= tol
+    (d <= tol) & (-d <= tol)
 }
 
 #[tactic(auto, unfolding(crate::specs::Matching::matches))]

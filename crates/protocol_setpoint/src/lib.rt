@@ -47,7 +47,8 @@ fn mit_fields(pos: u32, vel: u32, kp: u32, kd: u32, torq: u32) -> u64
 }
 
 // Any six limits: a session's and those of `mit_cmd` come from `from_maxima`, and the definition holds
-// for others too.
+// for others too. Inlined, since the limits are the same from call to call.
+#[inline(always)]
 pub fn encode_mit_cmd(setpoint: MitSetpoint, limits: PvTLimits) -> u64
     ensures { result ≡ Spec.mit_data limits setpoint }
 {
