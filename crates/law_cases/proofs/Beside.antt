@@ -4,7 +4,7 @@ use lib.Ieee.{round, div, of_int, neg, sub, mul, add, le}
 use Rattle.motor_core.specs.Model.{limits_of, limit_accepted}
 use Rattle.registers.specs.Registers.{registers, elem, known}
 use Rattle.protocol_codes.specs.Codes.{uint_to_float}
-use Rattle.protocol_address.specs.Address.{accepted}
+use Rattle.protocol_address.specs.Address.{frame_accepted}
 use Rattle.protocol_feedback.specs.Feedback.{feedback_of}
 use Rattle.protocol_received.specs.Received.{class, received}
 use Rattle.protocol_status.specs.Status.{status_name}
@@ -13,7 +13,7 @@ use Rattle.session_frame.specs.Frame.{take_frame}
 use Rattle.law_cases.specs.Beside.{Beside}
 
 pub beside : Beside
-unfolding round div of_int neg sub mul add registers elem known uint_to_float accepted class feedback_of received status_name fresh take_frame limits_of limit_accepted le
+unfolding round div of_int neg sub mul add registers elem known uint_to_float frame_accepted class feedback_of received status_name fresh take_frame limits_of limit_accepted le
 beside = record {
   second_stored = refl;
   reading_back = refl;

@@ -4,7 +4,7 @@ use Rattle.std.specs.Float.Ieee.{neg}
 use Rattle.motor_core.specs.declared.bus.CanFrame.{CanFrame}
 use Rattle.time.specs.declared.Instant.{Instant}
 use Rattle.float.specs.Arithmetic.{float}
-use Rattle.protocol_address.specs.Address.{accepted}
+use Rattle.protocol_address.specs.Address.{frame_accepted}
 use Rattle.protocol_status.specs.declared.StatusName.TheVariants.{UnderVoltage}
 use Rattle.state_feedback.specs.declared.FeedbackSnapshot.{FeedbackSnapshot}
 use Rattle.state_cache.specs.Cache.{cached_entry}
@@ -58,8 +58,8 @@ pub record Beside : Type 0 where
   pub patch_with_one : (patch fed_twice 1 2 3).told ≡ true
   pub cached_none : cached_entry session.replies 10 ≡ Ok Empty
   pub cached_unknown : IsRefusedWith 4 (cached_entry session.replies 37)
-  pub stranger_taken_for_motor : accepted 1 0x12 (stranger 0x21 8 false) ≡ true
-  pub stranger_without_data : accepted 1 0x12 (stranger 0x21 0 false) ≡ false
-  pub stranger_extended : accepted 1 0x12 (stranger 0x12 8 true) ≡ false
-  pub other_motor : accepted 2 0x12 (stranger 0x21 8 false) ≡ false
-  pub on_feedback_id : accepted 2 0x12 (stranger 0x12 0 false) ≡ true
+  pub stranger_taken_for_motor : frame_accepted 1 0x12 (stranger 0x21 8 false) ≡ true
+  pub stranger_without_data : frame_accepted 1 0x12 (stranger 0x21 0 false) ≡ false
+  pub stranger_extended : frame_accepted 1 0x12 (stranger 0x12 8 true) ≡ false
+  pub other_motor : frame_accepted 2 0x12 (stranger 0x21 8 false) ≡ false
+  pub on_feedback_id : frame_accepted 2 0x12 (stranger 0x12 0 false) ≡ true

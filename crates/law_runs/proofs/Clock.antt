@@ -16,7 +16,7 @@ use Rattle.run_wait.specs.Wait.{late, poll_interval}
 use Rattle.run_wait.specs.declared.Wait.{Wait}
 use Rattle.run_wait.specs.declared.Wait.TheVariants.{Checking, Napping}
 use Rattle.law_runs.specs.Budget.{Budget}
-use Rattle.law_runs.specs.Clock.{Clocked, known_after, fine, AllFine, Clock, heard, slept, Moved, Later, moving, polls}
+use Rattle.law_runs.specs.Clock.{Clocked, known_after, fine, AllFine, Clock, heard, napped, Moved, Later, moving, polls}
 use Rattle.law_runs.specs.Trace.{Given, System, Label}
 
 -- ---- messages alone
@@ -87,7 +87,7 @@ module _ (c s : ℕ) where
 
   abbrev timed : Duration → Clock → Wait → ℕ
   timed l k (Checking o) = checks l k o
-  timed l k (Napping o) = s + checks l (slept poll_interval k) o
+  timed l k (Napping o) = s + checks l (napped poll_interval k) o
 
   pub timed_nap : (l : Duration) (k : Clock) (o t : Instant) → Later k.last k.naps t → late o l t ≡ false → c + timed l (heard t) (Napping o) ≤ timed l k (Checking o)
   unfolding furthest

@@ -18,18 +18,18 @@ use Rattle.run_machine.specs.declared.Machine.{Machine}
 use Rattle.run_machine.specs.declared.Machine.TheVariants.{GetRegister, WriteRegister, RequestFreshState, StoreParameters, EnsureControlMode}
 use Rattle.law_runs.specs.Clock.{unheard, heard, Moving, polls}
 use Rattle.law_runs.specs.Systems.{waiting, acking, running}
-use Rattle.law_runs.specs.Trace.{Given, Label, wants_from, after, counted, a_sleep, total}
+use Rattle.law_runs.specs.Trace.{Given, Label, wants_from, after, counted, one_sleep, total}
 
 -- These sends at most, by any weight of their commands, whatever the clock does. If its sleeps move the clock, so many sleeps, and ended after so many answers.
 pub record Within (start : Machine) (sends : (Label → ℕ) → ℕ) (sleeps answers : ℕ) : Type 0 where
   pub sends_at_most : (weight : Label → ℕ) (gs : List Given) → total (counted 0 weight 0) (wants_from running gs (Some start)) ≤ sends weight
-  pub sleeps_at_most : (gs : List Given) → Moving running gs unheard (Some start) → total a_sleep (wants_from running gs (Some start)) ≤ sleeps
+  pub sleeps_at_most : (gs : List Given) → Moving running gs unheard (Some start) → total one_sleep (wants_from running gs (Some start)) ≤ sleeps
   pub ends_after : (gs : List Given) → Moving running gs unheard (Some start) → answers ≤ length gs → after running gs (Some start) ≡ None
 
 pub record Bounds : Type 0 where
   -- a wait by itself, and one for an ack: sleeps that fit its length, rounded up, if they move the clock
-  pub wait : (l : Duration) (finds : Given → Instant → Bool) (o : Instant) (gs : List Given) → Moving (waiting l finds) gs (heard o) (Some (Checking o)) → total a_sleep (wants_from (waiting l finds) gs (Some (Checking o))) ≤ polls l.0
-  pub ack_wait : (value : RegisterValue) (gs : List Given) → Moving (acking value) gs unheard (Some AckWait.Opening) → total a_sleep (wants_from (acking value) gs (Some AckWait.Opening)) ≤ 25
+  pub wait : (l : Duration) (finds : Given → Instant → Bool) (o : Instant) (gs : List Given) → Moving (waiting l finds) gs (heard o) (Some (Checking o)) → total one_sleep (wants_from (waiting l finds) gs (Some (Checking o))) ≤ polls l.0
+  pub ack_wait : (value : RegisterValue) (gs : List Given) → Moving (acking value) gs unheard (Some AckWait.Opening) → total one_sleep (wants_from (acking value) gs (Some AckWait.Opening)) ≤ 25
   -- the runs
   pub read : (data_type : RegisterDataType) (rid : ℕ) (l : Duration) → Within (GetRegister data_type rid l Opening) (λ w. w (Label.read rid)) (polls l.0) (3 + 2 * polls l.0)
   pub request : (l : Duration) → Within (RequestFreshState l Opening) (λ w. w Label.request) (polls l.0) (3 + 2 * polls l.0)

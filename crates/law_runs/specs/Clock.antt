@@ -45,8 +45,8 @@ unheard = record { last = None; naps = [] }
 abbrev pub heard : Instant → Clock
 heard t = record { last = Some t; naps = [] }
 
-abbrev pub slept : Duration → Clock → Clock
-slept d k = record { last = k.last; naps = d ∷ k.naps }
+abbrev pub napped : Duration → Clock → Clock
+napped d k = record { last = k.last; naps = d ∷ k.naps }
 
 -- each sleep moves the clock on: the reading after it is no less than its length above the one before it
 unfoldable pub Moved : Instant → List Duration → Instant → Type 0
@@ -59,7 +59,7 @@ Later None naps t = Unit {0}
 Later (Some r) naps t = (r.0 ≤ t.0) × Moved r naps t
 
 abbrev pub moving : Clocked
-moving = record { Known = Clock; hear = heard; nap = slept; Fine = λ k t. Later k.last k.naps t }
+moving = record { Known = Clock; hear = heard; nap = napped; Fine = λ k t. Later k.last k.naps t }
 
 -- a machine's readings are in order, and its sleeps move the clock on
 abbrev pub Moving : (σ : System) → List Given → Clock → Option σ.At → Type 0

@@ -56,8 +56,8 @@ counted clock send sleep Clock = clock
 counted clock send sleep (Send message) = send (label message)
 counted clock send sleep (Sleep length) = sleep
 
-abbrev pub a_sleep : Want Message → ℕ
-a_sleep = counted 0 (λ command. 0) 1
+abbrev pub one_sleep : Want Message → ℕ
+one_sleep = counted 0 (λ command. 0) 1
 
 abbrev pub any_want : Want Message → ℕ
 any_want = counted 1 (λ command. 1) 1

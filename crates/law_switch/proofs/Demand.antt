@@ -85,11 +85,11 @@ module _ (h : Head) (mode : ControlMode) (timeout : Duration) (ts : List Turn) (
   unfolding wants_send
   sends_wanted = trace.counts _ _ (λ q. Count.sends_weight h (switch_want mode q)) (λ r. refl)
 
-  sleeps_as : counted_in (λ g. a_sleep g.told) ≡ wanted_in Trace.a_sleep
+  sleeps_as : counted_in (λ g. a_sleep g.told) ≡ wanted_in Trace.one_sleep
   unfolding a_want is_sleep
   sleeps_as = trace.counts _ _ (λ q. Count.sleeps_count h (switch_want mode q)) (λ r. refl)
 
-  sleeps_wanted : counted_in (λ g. wants_sleep g.wants) ≡ wanted_in Trace.a_sleep
+  sleeps_wanted : counted_in (λ g. wants_sleep g.wants) ≡ wanted_in Trace.one_sleep
   unfolding wants_sleep
   sleeps_wanted = trace.counts _ _ (λ q. Count.sleeps_weight h (switch_want mode q)) (λ r. refl)
 

@@ -28,7 +28,7 @@ use Rattle.session.specs.Session.{fresh}
 use Rattle.session.specs.Start.{with_limits, from_limits, from_model}
 use Rattle.session.specs.declared.Session.{Session}
 use Rattle.session.proofs.Fresh.{fresh_reply, fresh_replies, fresh_last}
-use Rattle.run_arguments.specs.Arguments.{accepted, mode_start}
+use Rattle.run_arguments.specs.Arguments.{checked_timeout, mode_start}
 use Rattle.law_switch.specs.Claim.{Fresh, of_limits, of_model}
 use Rattle.law_switch.proofs.Sessions.{mode_entry, Sound}
 
@@ -114,6 +114,6 @@ switching n timeout m e = check (control_mode n) refl e
     timed mode c true h = record { mode = mode; number = numbered n mode c; opens = the_same (EnsureControlMode mode timeout Starting) h }
     timed mode c false h = absurd (clash (cc))
 
-    check : (c : Result ControlMode Refusal) → control_mode n ≡ c → and_then c (λ k. and_then (accepted timeout) (λ t. Ok (EnsureControlMode k t Starting))) ≡ Ok m → Switching n timeout m
+    check : (c : Result ControlMode Refusal) → control_mode n ≡ c → and_then c (λ k. and_then (checked_timeout timeout) (λ t. Ok (EnsureControlMode k t Starting))) ≡ Ok m → Switching n timeout m
     check (Err refusal) c h = absurd (clash (cc))
     check (Ok mode) c h = timed mode c (timeout_accepted timeout) h

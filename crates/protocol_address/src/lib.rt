@@ -2,14 +2,14 @@
 #![tactic(auto)]
 
 ghost use Rattle.std.specs.Prelude.{◌≡◌};
-ghost use Rattle.protocol_address.specs.Address.{accepted};
+ghost use Rattle.protocol_address.specs.Address.{frame_accepted};
 
 use motor_core::bus::CanFrame;
 
 // Whether a frame may be this motor's: four bits of the address are compared, as the Rust does.
-#[tactic(auto, unfolding(crate::specs::Address::accepted))]
+#[tactic(auto, unfolding(crate::specs::Address::frame_accepted))]
 pub fn accepts_frame(frame: CanFrame, motor_id: u16, feedback_id: u16) -> bool
-    ensures { result ≡ accepted motor_id feedback_id frame }
+    ensures { result ≡ frame_accepted motor_id feedback_id frame }
 {
     if frame.is_extended {
         return false;

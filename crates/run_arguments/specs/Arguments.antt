@@ -19,12 +19,12 @@ use Rattle.switch_stage.specs.declared.Switch.TheVariants.{Starting}
 use Rattle.run_machine.specs.declared.Machine.{Machine}
 use Rattle.run_machine.specs.declared.Machine.TheVariants.{GetRegister, WriteRegister, RequestFreshState, StoreParameters, EnsureControlMode}
 
-abbrev pub accepted : Duration → Result Duration Refusal
-accepted timeout = cond (timeout_accepted timeout) (Ok timeout) (Err Refusal.Timeout)
+abbrev pub checked_timeout : Duration → Result Duration Refusal
+checked_timeout timeout = cond (timeout_accepted timeout) (Ok timeout) (Err Refusal.Timeout)
 
 -- a read: the register, then the timeout
 abbrev pub get_start : RegisterDataType → ℕ → Duration → Result Machine Refusal
-get_start data_type rid timeout = cond (known rid) (and_then (accepted timeout) (λ t. Ok (GetRegister data_type rid t Opening))) (Err Refusal.Register)
+get_start data_type rid timeout = cond (known rid) (and_then (checked_timeout timeout) (λ t. Ok (GetRegister data_type rid t Opening))) (Err Refusal.Register)
 
 -- a write: the register, then its access, then the value's type
 abbrev pub write_known : RegisterAccess → RegisterDataType → ℕ → RegisterValue → Result Machine Refusal
@@ -40,7 +40,7 @@ write_start rid value = write_by (info_of rid) rid value
 
 -- a fresh-state request: the timeout
 abbrev pub fresh_state_start : Duration → Result Machine Refusal
-fresh_state_start timeout = and_then (accepted timeout) (λ t. Ok (RequestFreshState t Opening))
+fresh_state_start timeout = and_then (checked_timeout timeout) (λ t. Ok (RequestFreshState t Opening))
 
 -- storing is refused only where a run is open
 abbrev pub store_start : Machine
@@ -48,4 +48,4 @@ store_start = StoreParameters (Asking Opening)
 
 -- a mode switch: the mode, then the timeout
 abbrev pub mode_start : ℕ → Duration → Result Machine Refusal
-mode_start mode timeout = and_then (control_mode mode) (λ m. and_then (accepted timeout) (λ t. Ok (EnsureControlMode m t Starting)))
+mode_start mode timeout = and_then (control_mode mode) (λ m. and_then (checked_timeout timeout) (λ t. Ok (EnsureControlMode m t Starting)))

@@ -18,8 +18,8 @@ use switch_stage::Switch;
 use time::{Duration, accepts_timeout};
 
 // The timeout, if it is accepted.
-fn accepted(timeout: Duration) -> Result<Duration, Refusal>
-    ensures { result ≡ Spec.accepted timeout }
+fn checked_timeout(timeout: Duration) -> Result<Duration, Refusal>
+    ensures { result ≡ Spec.checked_timeout timeout }
 {
     if !accepts_timeout(timeout) {
         return Err(Refusal::Timeout);
@@ -37,7 +37,7 @@ pub fn get_start(
     if !is_known(rid) {
         return Err(Refusal::Register);
     }
-    let timeout = accepted(timeout)?;
+    let timeout = checked_timeout(timeout)?;
     Ok(Machine::GetRegister(data_type, rid, timeout, Ask::Opening))
 }
 
@@ -55,7 +55,7 @@ pub fn write_start(rid: u8, value: RegisterValue) -> Result<Machine, Refusal>
 pub fn fresh_state_start(timeout: Duration) -> Result<Machine, Refusal>
     ensures { result ≡ Spec.fresh_state_start timeout }
 {
-    let timeout = accepted(timeout)?;
+    let timeout = checked_timeout(timeout)?;
     Ok(Machine::RequestFreshState(timeout, Ask::Opening))
 }
 
@@ -69,6 +69,6 @@ pub fn mode_start(mode: u32, timeout: Duration) -> Result<Machine, Refusal>
     ensures { result ≡ Spec.mode_start mode timeout }
 {
     let mode = ControlMode::try_from(mode)?;
-    let timeout = accepted(timeout)?;
+    let timeout = checked_timeout(timeout)?;
     Ok(Machine::EnsureControlMode(mode, timeout, Switch::Starting))
 }

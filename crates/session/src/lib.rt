@@ -5,7 +5,7 @@
 pub mod start;
 
 ghost use Rattle.std.specs.Prelude.{◌≡◌};
-ghost use Rattle.protocol_address.specs.Address.{accepted};
+ghost use Rattle.protocol_address.specs.Address.{frame_accepted};
 ghost use Rattle.session.specs.Session as Spec;
 
 use motor_core::bus::CanFrame;
@@ -48,7 +48,7 @@ pub type AfterPatch = After<bool>;
 
 // Whether a frame may be this motor's. Taking a frame does not ask.
 pub fn accepts_frame(head: Head, frame: CanFrame) -> bool
-    ensures { result ≡ accepted head.motor_id head.feedback_id frame }
+    ensures { result ≡ frame_accepted head.motor_id head.feedback_id frame }
 {
     protocol_address::accepts_frame(frame, head.motor_id, head.feedback_id)
 }

@@ -44,8 +44,8 @@ with_error p error = record { deadline = p.deadline; hold_position = p.hold_posi
 
 -- ---- reading the mode
 
-abbrev pub reads_mode : ModeRead → Progress → Duration → Ask → Stepped Switch (Unit {0})
-reads_mode which p length ask = goes p (Reading which length ask)
+abbrev pub in_mode_read : ModeRead → Progress → Duration → Ask → Stepped Switch (Unit {0})
+in_mode_read which p length ask = goes p (Reading which length ask)
 
 -- the last error is the result
 abbrev pub given_up : Progress → Stepped Switch (Unit {0})
@@ -68,14 +68,14 @@ mode_unread mode which p Failure.WrongType = Err Failure.WrongType
 mode_unread mode which p Failure.SendFailed = Err Failure.SendFailed
 
 abbrev pub after_mode_read : ControlMode → ModeRead → Progress → Duration → Stepped Ask RegisterValue → Stepped Switch (Unit {0})
-after_mode_read mode which p length (Ok (Continue ask)) = reads_mode which p length ask
+after_mode_read mode which p length (Ok (Continue ask)) = in_mode_read which p length ask
 after_mode_read mode which p length (Ok (Break value)) = mode_got mode which p value
 after_mode_read mode which p length (Err failure) = mode_unread mode which p failure
 
 -- past the deadline no read is tried
 abbrev pub mode_timed : ModeRead → Progress → Option Duration → Stepped Switch (Unit {0})
 mode_timed which p None = given_up p
-mode_timed which p (Some length) = reads_mode which p length Opening
+mode_timed which p (Some length) = in_mode_read which p length Opening
 
 abbrev pub mode_time : Duration → ModeRead → Progress → Instant → Stepped Switch (Unit {0})
 mode_time timeout which p now = mode_timed which p (capped_remaining p.deadline (mode_read_cap timeout) now)

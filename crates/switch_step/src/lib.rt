@@ -33,13 +33,13 @@ fn started(deadline: Instant) -> Stepped<Switch, ()>
     goes(progress, Stage::Remaining(ModeRead::First))
 }
 
-fn reads_mode(
+fn in_mode_read(
     which: ModeRead,
     progress: Progress,
     length: Duration,
     ask: Ask,
 ) -> Stepped<Switch, ()>
-    ensures { result ≡ Spec.reads_mode which progress length ask }
+    ensures { result ≡ Spec.in_mode_read which progress length ask }
 {
     goes(progress, Stage::Reading(which, length, ask))
 }
@@ -75,7 +75,7 @@ fn after_mode_read(
     ensures { result ≡ Spec.after_mode_read mode which progress length next }
 {
     match next {
-        Ok(ControlFlow::Continue(ask)) => reads_mode(which, progress, length, ask),
+        Ok(ControlFlow::Continue(ask)) => in_mode_read(which, progress, length, ask),
         Ok(ControlFlow::Break(got)) if register_value_matches(got, mode_value(mode)) => Ok(
             ControlFlow::Break(()),
         ),
@@ -96,7 +96,7 @@ fn mode_time(
 {
     match capped_remaining(progress.deadline, mode_read_cap(timeout), now) {
         None => Err(progress.last_error),
-        Some(length) => reads_mode(which, progress, length, Ask::Opening),
+        Some(length) => in_mode_read(which, progress, length, Ask::Opening),
     }
 }
 
