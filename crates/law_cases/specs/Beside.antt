@@ -3,8 +3,12 @@ use Rattle.std.specs.Prelude.{ℕ, ◌+◌, ◌^◌, ◌≡◌, Bool, true, fals
 use Rattle.std.specs.Float.Ieee.{neg}
 use Rattle.motor_core.specs.declared.bus.CanFrame.{CanFrame}
 use Rattle.time.specs.declared.Instant.{Instant}
-use Rattle.float.specs.Arithmetic.{float}
+use Rattle.float.specs.Arithmetic.{float, ◌⊘◌}
 use Rattle.protocol_address.specs.Address.{frame_accepted}
+use Rattle.protocol_frame.specs.Command.{command}
+use Rattle.protocol_setpoint.specs.Setpoint.{mit_cmd, force_pos_cmd}
+use Rattle.protocol_hold.specs.Mode.{control_mode, mode_number}
+use Rattle.protocol_hold.specs.declared.ControlMode.{ControlMode}
 use Rattle.protocol_status.specs.declared.StatusName.TheVariants.{UnderVoltage}
 use Rattle.state_feedback.specs.declared.FeedbackSnapshot.{FeedbackSnapshot}
 use Rattle.state_cache.specs.Cache.{cached_entry}
@@ -12,7 +16,7 @@ use Rattle.session.specs.Session.{patch}
 use Rattle.session.specs.declared.Session.{Session}
 use Rattle.state_cache.specs.declared.Entry.TheVariants.{Empty}
 use Rattle.session_frame.specs.Frame.{frame_outcome, take_frame}
-use Rattle.law_cases.specs.Marked.{p, v, t, frame, on_bus, session, at_minimum}
+use Rattle.law_cases.specs.Marked.{p, v, t, zero, maxima, setpoint, frame, on_bus, session, at_minimum}
 use Rattle.motor_core.specs.Model.{limits_of}
 use Rattle.motor_core.specs.Error.{number}
 use Rattle.motor_core.specs.declared.error.Refusal.{Refusal}
@@ -54,6 +58,12 @@ pub record Beside : Type 0 where
   pub reading_beyond : IsRefusedWith 3 (frame_outcome fed_twice.head (on_bus at_minimum) (at (2 ^ 62 + 1)))
   -- limits of 0, which no start accepts
   pub placeholder_limits : IsRefusedWith 1 (limits_of no_limits)
+  -- below the ends of kp, kd, velocity limit and ratio, where their scales show, and beyond, where they are clipped
+  pub mit_scaled : mit_cmd 1 maxima (setpoint zero zero (float 100) (float 1) zero) ≡ Ok (command 1 0x7FFF_7FF3_3333_37FF)
+  pub mit_clipped : mit_cmd 1 maxima (setpoint zero zero (float 501) (float 6) zero) ≡ Ok (command 1 0x7FFF_7FFF_FFFF_F7FF)
+  pub force_position_scaled : force_pos_cmd 1 0 (float 50) (float 1 ⊘ float 2) ≡ Ok (command 0x301 0x0000_0000_8813_8813)
+  pub force_position_clipped : force_pos_cmd 1 0 (float 101) (float 2) ≡ Ok (command 0x301 0x0000_0000_1027_1027)
+  pub mode_back : (mode : ControlMode) → control_mode (mode_number mode) ≡ Ok mode
   pub patch_with_none : (patch session 1 2 3).told ≡ false
   pub patch_with_one : (patch fed_twice 1 2 3).told ≡ true
   pub cached_none : cached_entry session.replies 10 ≡ Ok Empty

@@ -1,6 +1,6 @@
 -- A float's sign dropped is at most another where the float and its negative are. Assumes nothing.
 use Prim.Native.Nat.{ℕ, ◌+◌, ◌*◌}
-use mathlib.Core.Path.{◌≡◌, refl, sym, ap, ◌∙◌}
+use mathlib.Core.Path.{◌≡◌, refl, ap, ◌∙◌}
 use mathlib.Core.Bool.{Bool, true, false, ◌||◌, ◌&&◌, and-true, and_comm}
 use native.Mathlib.Omega.{arith}
 use lib.Dec.{ltb, eqb}
