@@ -1,4 +1,4 @@
-//! The line script's lines. Where its paper leaves a detail open, this is what holds here:
+//! The line script's lines, in detail:
 //!
 //! - A line ends at a newline byte, which is no part of it. A last line without one is a line too;
 //!   nothing after the last newline is no line.

@@ -9,7 +9,7 @@ use motor_vendor_damiao::registers::{
 pub struct Refused(pub u8);
 
 pub const RUN_OPEN: Refused = Refused(8);
-pub const OTHER_ANSWER: Refused = Refused(9);
+pub const NOT_WANTED: Refused = Refused(9);
 pub const MODEL_UNKNOWN: Refused = Refused(12);
 
 const LAST_MOTOR_ID: u16 = 0xFCFF;

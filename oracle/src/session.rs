@@ -123,7 +123,7 @@ impl Session {
     fn answer(&mut self, answer: Answer, out: &mut Vec<u8>) -> Result<(), Refused> {
         match &self.run {
             Some(run) if run.fits(answer) => {}
-            _ => return Err(refusals::OTHER_ANSWER),
+            _ => return Err(refusals::NOT_WANTED),
         }
         if let Answer::Reading(reading) = answer {
             refusals::reading(reading, self.last)?;

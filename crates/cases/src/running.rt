@@ -94,12 +94,12 @@ fn put_failure(rt: &impl Print, failure: Failure) {
 }
 
 // Prints what a start or an answer returns.
-fn told(rt: &impl Print, turn: AfterCall) -> Session {
-    match turn.told {
+fn told(rt: &impl Print, after: AfterCall) -> Session {
+    match after.told {
         Ok(told) => put_told(rt, told),
         Err(_) => text(rt, b" refused"),
     }
-    turn.session
+    after.session
 }
 
 // A step by its letter, so that a run stands on one line: a frame, stamped 6, or an answer, of which a

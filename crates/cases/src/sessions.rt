@@ -63,7 +63,7 @@ where
 }
 
 // The number that the next record has.
-fn next_number(rt: &impl Print, name: &[u8], session: Session, reading: u64) -> Session {
+fn next_sequence(rt: &impl Print, name: &[u8], session: Session, reading: u64) -> Session {
     let session = take(session, FEEDBACK, reading).session;
     line(rt, name, record_number(session));
     session
@@ -73,8 +73,8 @@ fn next_number(rt: &impl Print, name: &[u8], session: Session, reading: u64) -> 
 fn numbers_end(rt: &impl Print) -> Result<(), Refusal> {
     let mut session = started()?;
     session.head.feedback.sequence = u64::MAX - 1;
-    let session = next_number(rt, b"after number FFFFFFFFFFFFFFFE comes ", session, 1);
-    next_number(rt, b"and after that ", session, 2);
+    let session = next_sequence(rt, b"after number FFFFFFFFFFFFFFFE comes ", session, 1);
+    next_sequence(rt, b"and after that ", session, 2);
     Ok(())
 }
 

@@ -1,4 +1,4 @@
-// A call's arguments, from 0 on, as the types that the engine takes. The parser has seen that each
+// A call's arguments, from 0 on, as the types that the library takes. The parser has seen that each
 // fits its field.
 use float::F32Bits;
 use motor_core::bus::CanFrame;

@@ -8,7 +8,7 @@ use session::Session;
 use std::io::{Print, Read};
 
 // Reads and answers to the end of the input, or until an answer cannot be written. A proved loop has
-// to end, and nothing says that the input does, so the turns are as many as no run uses up.
+// to end, and nothing says that the input does, so it has a bound that no input reaches.
 pub(crate) fn run(stdin: &mut impl Read, stdout: &impl Print, stderr: &impl Print) {
     let mut input = Input::new();
     let mut session = None;

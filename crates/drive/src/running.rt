@@ -10,7 +10,7 @@ use session_begin::{
 };
 use time::{Duration, Instant};
 
-pub(crate) fn turn(session: Session, call: Call) -> AfterCall {
+pub(crate) fn call_run(session: Session, call: Call) -> AfterCall {
     match call.name {
         CallName::GetU32 => get_register_u32(session, number_at(call, 0), timeout_at(call, 1)),
         CallName::GetF32 => get_register_f32(session, number_at(call, 0), timeout_at(call, 1)),

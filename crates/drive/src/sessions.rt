@@ -2,7 +2,7 @@
 use crate::fields::{frame_at, maxima_at, number_at};
 use crate::page::Page;
 use crate::results::put_told;
-use crate::running::turn;
+use crate::running::call_run;
 use crate::session_text::put_session;
 use model_damiao::damiao_models;
 use motor_core::error::Refusal;
@@ -80,7 +80,7 @@ fn on_session(page: &mut Page, session: &mut Session, call: Call) -> Result<(), 
         }
         CallName::Session => put_session(page, session),
         _ => {
-            let done = turn(*session, call);
+            let done = call_run(*session, call);
             *session = done.session;
             put_told(page, done.told?);
         }

@@ -49,7 +49,8 @@ pub fn clamp(x: f32, min: f32, max: f32) -> f32
     if y > max { max } else { y }
 }
 
-// How many of a float's 24 digits the fraction has, all of them below 1, by the exponent's field.
+// How many of the 24 binary digits of a float stand behind the point, by the exponent's field: all, where it
+// is below 1.
 fn fraction_digits(exponent: u32) -> u32
     requires { exponent ≤ 150 }
     ensures { result ≡ min (150 - exponent) 24 }
@@ -59,7 +60,7 @@ fn fraction_digits(exponent: u32) -> u32
 
 // Rust's `x as u32`: the fraction is dropped, what is out of range goes to the nearest end, and a
 // NaN gives 0.
-// By the bits: std's cast goes by way of an `f64`, and with it encoding misses the time that it takes so.
+// By the bits: std's cast goes by way of an `f64`, and encoding takes longer with it.
 pub fn as_u32(x: f32) -> u32
     ensures { result ≡ Ieee.to_unsigned 32 x }
 {

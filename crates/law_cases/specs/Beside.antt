@@ -1,4 +1,4 @@
--- Cases beside the marked ones, in which no two fields are alike: what they pin down is a slip that the marked ones would not show. `proofs/Beside.antt` has their proof.
+-- Cases beside the marked ones, which show slips that those would not: fields that differ from one another, scales below their ends and clips beyond them, mode numbers, refusals. `proofs/Beside.antt` has their proof.
 use Rattle.std.specs.Prelude.{ℕ, ◌+◌, ◌^◌, ◌≡◌, Bool, true, false, List, Some, Result, Ok, Err}
 use Rattle.std.specs.Float.Ieee.{neg}
 use Rattle.motor_core.specs.declared.bus.CanFrame.{CanFrame}
@@ -57,7 +57,7 @@ pub record Beside : Type 0 where
   pub reading_back : IsRefusedWith 3 (frame_outcome fed_twice.head (on_bus at_minimum) (at 6))
   pub reading_beyond : IsRefusedWith 3 (frame_outcome fed_twice.head (on_bus at_minimum) (at (2 ^ 62 + 1)))
   -- limits of 0, which no start accepts
-  pub placeholder_limits : IsRefusedWith 1 (limits_of no_limits)
+  pub limits_of_zero : IsRefusedWith 1 (limits_of no_limits)
   -- below the ends of kp, kd, velocity limit and ratio, where their scales show, and beyond, where they are clipped
   pub mit_scaled : mit_cmd 1 maxima (setpoint zero zero (float 100) (float 1) zero) ≡ Ok (command 1 0x7FFF_7FF3_3333_37FF)
   pub mit_clipped : mit_cmd 1 maxima (setpoint zero zero (float 501) (float 6) zero) ≡ Ok (command 1 0x7FFF_7FFF_FFFF_F7FF)

@@ -1,3 +1,3 @@
-// The worked cases of the request that are marked to be proved, as a table over the definitions. It
-// has no code.
+// The worked cases of the request that are marked to be proved, and cases beside them, as tables over the
+// definitions. It has no code.
 #![tactic(auto)]

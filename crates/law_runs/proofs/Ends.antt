@@ -34,7 +34,7 @@ use Rattle.std.specs.declared.ops.ControlFlow.TheVariants.{Continue, Break}
 use Rattle.run_wait.specs.declared.Waited.{Waited}
 use Rattle.state_feedback.specs.declared.FeedbackSnapshot.{FeedbackSnapshot}
 use Rattle.state_feedback.specs.declared.MotorFeedbackState.{MotorFeedbackState}
-use Rattle.motor_core.specs.Outcome.{and_then}
+use Rattle.motor_core.specs.AndThen.{and_then}
 use Rattle.run_write.specs.declared.Write.{Write}
 use Rattle.run_fresh.specs.State.{state_by, state_step}
 use Rattle.law_runs.specs.Ends.{ask_opening, ack_opening, HoldsFresh, Look, Since, ReadSaw, GetSaw, AckSaw, StateSaw, WriteSaw}

@@ -1,7 +1,7 @@
 -- A fresh session, and what an accepted start of a switch opens. Assumes nothing.
 use Rattle.std.specs.Prelude.{Result, Ok, Err}
 use Rattle.motor_core.proofs.Turned.{clash}
-use Rattle.motor_core.specs.Outcome.{and_then}
+use Rattle.motor_core.specs.AndThen.{and_then}
 use Rattle.motor_core.specs.declared.error.Refusal.{Refusal}
 use Rattle.motor_core.specs.declared.error.Refusal.TheVariants.{MotorId, Mode, Timeout}
 use Rattle.motor_core.specs.declared.model.Maxima.{Maxima}

@@ -31,7 +31,7 @@ use Rattle.session_step.specs.Parts.{caller_want}
 use Rattle.session_step.specs.declared.Told.TheVariants as Told
 use Rattle.run_want.specs.declared.Want.TheVariants as Wanted
 use Rattle.law_runs.specs.Trace.{Label, label, counted}
-use Rattle.law_switch.specs.Claim.{Gave, mode_read, mode_write, read_frame, write_frame, shared, once, a_send, a_sleep, on_7ff, wants_send, wants_sleep, any, reads_mode, writes_mode, a_want, send_to, is_sleep}
+use Rattle.law_switch.specs.Claim.{Gave, mode_read, mode_write, read_bytes, write_bytes, shared, once, a_send, a_sleep, on_7ff, wants_send, wants_sleep, any, reads_mode, writes_mode, a_want, send_to, is_sleep}
 
 -- a switch reads registers 10 and 80, writes the mode to 10, and sends no other request
 abbrev Own : ControlMode → Want Message → Type 0
@@ -119,14 +119,14 @@ module _ (motor : ℕ) where
   write_no_read Vel = unequal (register_write_data motor 10 3) (register_read_data motor 10) (λ e. omega (arith, e))
   write_no_read ForcePos = unequal (register_write_data motor 10 4) (register_read_data motor 10) (λ e. omega (arith, e))
 
-  a_write : (mode : ControlMode) → write_frame motor (register_write_data motor 10 (mode_number mode)) ≡ true
+  a_write : (mode : ControlMode) → write_bytes motor (register_write_data motor 10 (mode_number mode)) ≡ true
   unfolding register_write_data addressed packed_onto little_endian
   a_write Mit = eq-eqb (register_write_data motor 10 1 / 2 ^ 32) (register_write_data motor 10 0 / 2 ^ 32) (omega arith)
   a_write PosVel = eq-eqb (register_write_data motor 10 2 / 2 ^ 32) (register_write_data motor 10 0 / 2 ^ 32) (omega arith)
   a_write Vel = eq-eqb (register_write_data motor 10 3 / 2 ^ 32) (register_write_data motor 10 0 / 2 ^ 32) (omega arith)
   a_write ForcePos = eq-eqb (register_write_data motor 10 4 / 2 ^ 32) (register_write_data motor 10 0 / 2 ^ 32) (omega arith)
 
-  read_no_write : (rid : ℕ) → write_frame motor (register_read_data motor rid) ≡ false
+  read_no_write : (rid : ℕ) → write_bytes motor (register_read_data motor rid) ≡ false
   unfolding register_read_data register_write_data addressed packed_onto little_endian bytes
   read_no_write rid = unequal (register_read_data motor rid / 2 ^ 32) (register_write_data motor 10 0 / 2 ^ 32) (λ e. omega (arith, e))
 
@@ -203,21 +203,21 @@ module _ (h : Head) where
   reads_own mode (Send RequestFeedback) o = absurd o
   reads_own mode (Send Disable) o = absurd o
   reads_own mode (Send StoreParams) o = absurd o
-  reads_own mode (Send (Setpoint m position)) o = hold_neither motor (read_frame motor) m (hold_data h.limits m position.0)
+  reads_own mode (Send (Setpoint m position)) o = hold_neither motor (read_bytes motor) m (hold_data h.limits m position.0)
   reads_own mode (Sleep length) o = refl
 
   writes_own : (mode : ControlMode) (w : Want Message) → Own mode w → mode_write motor (gives w) ≡ wants_send writes_mode (Some w)
   unfolding a_want send_to wants_send writes_mode
   writes_own mode Clock o = refl
-  writes_own mode (Send (ReadRegister rid)) o = left_false (write_frame motor (register_read_data motor rid)) _ (read_no_write motor rid)
+  writes_own mode (Send (ReadRegister rid)) o = left_false (write_bytes motor (register_read_data motor rid)) _ (read_no_write motor rid)
   writes_own mode (Send (WriteRegister rid bits)) o =
-      (λ i. write_frame motor (register_write_data motor (o.0 i) (o.1 i)) && (not (shared motor) || eqb (o.0 i) 10))
+      (λ i. write_bytes motor (register_write_data motor (o.0 i) (o.1 i)) && (not (shared motor) || eqb (o.0 i) 10))
       ∙ (λ i. a_write motor mode i && or_true (not (shared motor)) i)
       ∙ sym (ap (λ (r : ℕ). eqb r 10) o.0)
   writes_own mode (Send RequestFeedback) o = absurd o
   writes_own mode (Send Disable) o = absurd o
   writes_own mode (Send StoreParams) o = absurd o
-  writes_own mode (Send (Setpoint m position)) o = hold_neither motor (write_frame motor) m (hold_data h.limits m position.0)
+  writes_own mode (Send (Setpoint m position)) o = hold_neither motor (write_bytes motor) m (hold_data h.limits m position.0)
   writes_own mode (Sleep length) o = refl
 
   pub reads_alike : (mode : ControlMode) (p : Switch) → mode_read motor (gives (switch_want mode p)) ≡ wants_send reads_mode (Some (switch_want mode p))

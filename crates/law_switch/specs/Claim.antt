@@ -71,17 +71,17 @@ pub data Returned : Type 0 where
   frame : FrameOutcome → Returned
   patched : Bool → Returned
 
-pub record After : Type 0 where
+pub record AfterEvent : Type 0 where
   pub session : Session
   pub returned : Returned
 
-abbrev pub of_run : AfterCall → After
+abbrev pub of_run : AfterCall → AfterEvent
 of_run t = record { session = t.session; returned = told t.told }
 
-abbrev pub of_frame : AfterFrame → After
+abbrev pub of_frame : AfterFrame → AfterEvent
 of_frame t = record { session = t.session; returned = Returned.frame t.told }
 
-abbrev pub of_patch : AfterPatch → After
+abbrev pub of_patch : AfterPatch → AfterEvent
 of_patch p = record { session = p.session; returned = patched p.told }
 
 -- each call by the definition that its function is proved equal to; where the session is lent, its last value is the next one
@@ -94,7 +94,7 @@ start_run s (fresh_state timeout) = request_fresh_state s timeout
 start_run s store = store_parameters s
 start_run s (switch mode timeout) = ensure_control_mode s mode timeout
 
-unfoldable pub step : Session → Call → After
+unfoldable pub step : Session → Call → AfterEvent
 step s (start b) = of_run (start_run s b)
 step s (answer a) = of_run (answer_run s a)
 step s (Call.frame f reading) = of_frame (take_frame s f reading)
@@ -256,11 +256,11 @@ abbrev pub a_sleep : Answered → Bool
 a_sleep = a_want is_sleep
 
 -- the bytes of a read of register 10; of a write of it, whatever the value: the first four
-abbrev pub read_frame : ℕ → ℕ → Bool
-read_frame motor bytes = eqb bytes (register_read_data motor 10)
+abbrev pub read_bytes : ℕ → ℕ → Bool
+read_bytes motor bytes = eqb bytes (register_read_data motor 10)
 
-abbrev pub write_frame : ℕ → ℕ → Bool
-write_frame motor bytes = eqb (bytes / 2 ^ 32) (register_write_data motor 10 0 / 2 ^ 32)
+abbrev pub write_bytes : ℕ → ℕ → Bool
+write_bytes motor bytes = eqb (bytes / 2 ^ 32) (register_write_data motor 10 0 / 2 ^ 32)
 
 -- the motor ids that put a setpoint frame on 0x7FF too
 unfoldable pub shared : ℕ → Bool
@@ -300,10 +300,10 @@ writes_mode (Setpoint mode position) = false
 
 -- A read or write of register 10 is its frame on 0x7FF; where a setpoint frame may be the same, only if the definition wants that command.
 abbrev pub mode_read : ℕ → Gave → Bool
-mode_read motor g = on_7ff (read_frame motor) g.told && (not (shared motor) || wants_send reads_mode g.wants)
+mode_read motor g = on_7ff (read_bytes motor) g.told && (not (shared motor) || wants_send reads_mode g.wants)
 
 abbrev pub mode_write : ℕ → Gave → Bool
-mode_write motor g = on_7ff (write_frame motor) g.told && (not (shared motor) || wants_send writes_mode g.wants)
+mode_write motor g = on_7ff (write_bytes motor) g.told && (not (shared motor) || wants_send writes_mode g.wants)
 
 -- ---- where each sleep moves the clock on
 

@@ -1,4 +1,4 @@
-// The built-in list of models.
+// The built-in list of 16 models.
 #![tactic(auto)]
 
 ghost use Rattle.std.specs.Prelude.{◌≡◌};
@@ -45,7 +45,6 @@ static DAMIAO_MODELS: [MotorModelSpec; MODEL_PLACES] = [
     model!(b"6248P          ", 5, 12.566, 20.0, 120.0),
 ];
 
-// The built-in list.
 pub fn damiao_models() -> ModelList
     ensures { result ≡ list_of damiao_models }
 {

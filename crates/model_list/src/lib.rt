@@ -70,7 +70,6 @@ impl ModelList {
 }
 
 impl Names {
-    // No names.
     pub fn new() -> Names
         ensures { result ≡ [] }
     {

@@ -1,5 +1,5 @@
+pub mod AndThen
 pub mod Bus
 pub mod Error
 pub mod Model
 pub mod Name
-pub mod Outcome

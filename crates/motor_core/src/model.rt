@@ -31,7 +31,7 @@ pub fn accepts_limit(max: f32) -> bool
 
 // The six limits that three maxima stand for.
 #[tactic(auto, unfolding(crate::specs::Model::limits_of))]
-pub fn from_maxima(maxima: Maxima) -> Result<PvTLimits, Refusal>
+pub fn limits_of(maxima: Maxima) -> Result<PvTLimits, Refusal>
     ensures { result ≡ limits_of maxima }
 {
     let Maxima {

@@ -5,7 +5,8 @@ ghost use Rattle.motor_core.specs.Name.{name_from, spelling, spell_same};
 
 use text::same_bytes;
 
-// The first `len` bytes are the name; the others are spaces. The bytes are fixed: the core has no heap.
+// The first `len` bytes are the name; the others count for nothing, and `new` puts spaces there. The bytes
+// are fixed: the core has no heap.
 #[derive(Clone, Copy)]
 pub struct Name {
     pub bytes: [u8; 15],

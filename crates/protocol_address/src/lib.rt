@@ -6,7 +6,8 @@ ghost use Rattle.protocol_address.specs.Address.{frame_accepted};
 
 use motor_core::bus::CanFrame;
 
-// Whether a frame may be this motor's: four bits of the address are compared, as the Rust does.
+// Whether a frame may be this motor's: on its feedback id, or with the motor's low four bits in d0, which is
+// all that the Rust compares.
 #[tactic(auto, unfolding(crate::specs::Address::frame_accepted))]
 pub fn accepts_frame(frame: CanFrame, motor_id: u16, feedback_id: u16) -> bool
     ensures { result ≡ frame_accepted motor_id feedback_id frame }

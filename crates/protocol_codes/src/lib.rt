@@ -4,7 +4,6 @@
 ghost use Rattle.std.specs.Prelude.{◌≡◌};
 ghost use Rattle.protocol_codes.specs.Codes.{full, bits_in};
 
-// The widths of codes, in bits.
 #[derive(Clone, Copy)]
 pub enum Width {
     Twelve,

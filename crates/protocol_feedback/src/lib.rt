@@ -7,7 +7,7 @@ ghost use Rattle.protocol_codes.specs.Codes.{bits_in, uint_to_float};
 ghost use Rattle.protocol_feedback.specs.Feedback as Spec;
 
 use motor_core::error::Refusal;
-use motor_core::model::{Maxima, PvTLimits, from_maxima};
+use motor_core::model::{Maxima, PvTLimits, limits_of};
 use protocol_codes::{Width, full_scale};
 
 #[derive(Clone, Copy)]
@@ -68,7 +68,7 @@ fn temperature(byte: u8) -> f32
     f32::from(byte)
 }
 
-// Any six limits: a session's come from `from_maxima`, and the definition holds for others too.
+// Any six limits: a session's come from `limits_of`, and the definition holds for others too.
 #[tactic(auto, unfolding(crate::specs::Feedback::feedback_of))]
 pub fn decode_sensor_feedback(data: [u8; 8], limits: PvTLimits) -> SensorFeedback
     ensures { result ≡ Spec.feedback_of limits «data» }
@@ -88,6 +88,6 @@ pub fn decode_sensor_feedback(data: [u8; 8], limits: PvTLimits) -> SensorFeedbac
 pub fn decode_feedback(maxima: Maxima, data: [u8; 8]) -> Result<SensorFeedback, Refusal>
     ensures { result ≡ Spec.decoded maxima «data» }
 {
-    let limits = from_maxima(maxima)?;
+    let limits = limits_of(maxima)?;
     Ok(decode_sensor_feedback(data, limits))
 }

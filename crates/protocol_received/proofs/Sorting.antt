@@ -9,7 +9,7 @@ use Rattle.motor_core.specs.declared.model.PvTLimits.{PvTLimits}
 use Rattle.registers.specs.Registers.{known, data_type_of, info_of}
 use Rattle.registers.specs.declared.RegisterDataType.{RegisterDataType}
 use Rattle.registers.specs.declared.RegisterInfo.{RegisterInfo}
-use Rattle.registers.proofs.Codes.{info, info_known}
+use Rattle.registers.proofs.Known.{info, info_known}
 use Rattle.protocol_frame.specs.Layout.{d}
 use Rattle.protocol_feedback.specs.Feedback.{feedback_of}
 use Rattle.protocol_received.specs.Received.{class_of, typed_value, register_value, sorted_as, sorted, by_class, received}

@@ -8,7 +8,7 @@ use motor_core::model::PvTLimits;
 use protocol_feedback::{SensorFeedback, decode_sensor_feedback};
 use registers::{RegisterDataType, RegisterValue};
 
-// As a `Received` of nothing a class would be `Reply(())`.
+// The class alone, without what the frame says.
 #[derive(Clone, Copy)]
 pub enum FrameClass {
     Reply,
@@ -73,7 +73,7 @@ pub fn frame_class(data: [u8; 8]) -> FrameClass
 }
 
 // The 32 bits in d4 to d7 as a value of a type.
-fn register_value(data: [u8; 8], data_type: RegisterDataType) -> RegisterValue
+fn typed_value(data: [u8; 8], data_type: RegisterDataType) -> RegisterValue
     ensures { result ≡ Spec.typed_value data_type «data» }
 {
     let bits = u32::from_le_bytes([data[4], data[5], data[6], data[7]]);
@@ -86,8 +86,8 @@ pub fn read_frame(data: [u8; 8], limits: PvTLimits) -> Received
 {
     let sorted = sort_frame(data);
     match sorted {
-        Sorted::Reply(data_type) => Received::Reply(data[3], register_value(data, data_type)),
-        Sorted::Ack(data_type) => Received::Ack(data[3], register_value(data, data_type)),
+        Sorted::Reply(data_type) => Received::Reply(data[3], typed_value(data, data_type)),
+        Sorted::Ack(data_type) => Received::Ack(data[3], typed_value(data, data_type)),
         Sorted::Feedback => Received::Feedback(decode_sensor_feedback(data, limits)),
     }
 }

@@ -4,7 +4,7 @@ use Rattle.std.specs.Float.Ieee.{to_unsigned}
 use Rattle.float.specs.Float.{clip}
 use Rattle.motor_core.specs.Model.{limits_of}
 use Rattle.motor_core.specs.declared.model.PvTLimits.{PvTLimits}
-use Rattle.motor_core.specs.Outcome.{and_then}
+use Rattle.motor_core.specs.AndThen.{and_then}
 use Rattle.motor_core.specs.declared.error.Refusal.{Refusal}
 use Rattle.motor_core.specs.declared.model.Maxima.{Maxima}
 use Rattle.float.specs.Arithmetic.{float, ◌⊗◌}

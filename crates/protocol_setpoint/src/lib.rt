@@ -8,7 +8,7 @@ ghost use Rattle.protocol_setpoint.specs.Setpoint as Spec;
 
 use float::F32Bits;
 use motor_core::error::Refusal;
-use motor_core::model::{Maxima, PvTLimits, from_maxima};
+use motor_core::model::{Maxima, PvTLimits, limits_of};
 use protocol_codes::{Width, full_scale};
 use protocol_frame::Command;
 
@@ -46,7 +46,7 @@ fn mit_fields(pos: u32, vel: u32, kp: u32, kd: u32, torq: u32) -> u64
     (high * 0x100_0000 + gains) * 0x1000 + u64::from(torq % 0x1000)
 }
 
-// Any six limits: a session's and those of `mit_cmd` come from `from_maxima`, and the definition holds
+// Any six limits: a session's and those of `mit_cmd` come from `limits_of`, and the definition holds
 // for others too. Inlined, since the limits are the same from call to call.
 #[inline(always)]
 pub fn encode_mit_cmd(setpoint: MitSetpoint, limits: PvTLimits) -> u64
@@ -117,7 +117,7 @@ pub fn encode_force_pos_cmd(
 pub fn mit_cmd(motor_id: u16, maxima: Maxima, setpoint: MitSetpoint) -> Result<Command, Refusal>
     ensures { result ≡ Spec.mit_cmd motor_id maxima setpoint }
 {
-    let limits = from_maxima(maxima)?;
+    let limits = limits_of(maxima)?;
     protocol_frame::frame_for(
         motor_id,
         u32::from(motor_id),
@@ -125,8 +125,7 @@ pub fn mit_cmd(motor_id: u16, maxima: Maxima, setpoint: MitSetpoint) -> Result<C
     )
 }
 
-// Where position-velocity, velocity and force-position setpoints go; MIT goes to the motor id itself. The
-// sum is all that each is: one function of it would be called by three as long.
+// Where position-velocity, velocity and force-position setpoints go; MIT goes to the motor id itself.
 pub fn pos_vel_id(motor_id: u16) -> u32
     ensures { result ≡ Spec.pos_vel_id motor_id }
 {

@@ -1,4 +1,4 @@
 pub mod Below
 pub mod Table
-pub mod Codes
+pub mod Known
 pub mod Values

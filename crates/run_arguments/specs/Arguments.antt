@@ -1,6 +1,6 @@
 -- The arguments of a start: document 01's 'Turned back'. Definitions only.
 use Rattle.std.specs.Prelude.{ℕ, cond, Option, Some, None, Result, Ok, Err}
-use Rattle.motor_core.specs.Outcome.{and_then}
+use Rattle.motor_core.specs.AndThen.{and_then}
 use Rattle.motor_core.specs.declared.error.Refusal.{Refusal}
 use Rattle.time.specs.Time.{timeout_accepted}
 use Rattle.time.specs.declared.Duration.{Duration}

@@ -1,6 +1,6 @@
 -- The fresh-state request: document 01's 'The runs'. Definitions only.
 use Rattle.std.specs.Prelude.{Option, Some, None, option_map, Ok}
-use Rattle.motor_core.specs.Outcome.{and_then}
+use Rattle.motor_core.specs.AndThen.{and_then}
 use Rattle.time.specs.declared.Duration.{Duration}
 use Rattle.state_feedback.specs.declared.FeedbackSnapshot.{FeedbackSnapshot}
 use Rattle.state_feedback.specs.declared.MotorFeedbackState.{MotorFeedbackState}

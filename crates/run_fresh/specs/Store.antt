@@ -1,6 +1,6 @@
 -- Storing: document 01's 'The runs', its last rule. Definitions only.
 use Rattle.std.specs.Prelude.{cond, eqb, Option, Some, None, Ok, Err}
-use Rattle.motor_core.specs.Outcome.{and_then}
+use Rattle.motor_core.specs.AndThen.{and_then}
 use Rattle.time.specs.Time.{millis}
 use Rattle.time.specs.declared.Duration.{Duration}
 use Rattle.state_feedback.specs.declared.FeedbackSnapshot.{FeedbackSnapshot}

@@ -22,8 +22,8 @@ pub fn state_want(ask: Ask) -> Want<Message>
     ask_want(Message::RequestFeedback, ask)
 }
 
-// Past the deadline there is no state, which is no failure. Like a read's step, and not one with it for the
-// reason there.
+// Past the deadline there is no state, which is no failure. Like `read_step` of run_read, and apart from it for
+// the reason given there.
 pub fn state_step(
     timeout: Duration,
     latest: Option<FeedbackSnapshot>,

@@ -10,7 +10,7 @@ use state_feedback::{FeedbackSnapshot, MotorFeedbackState};
 use std::ops::ControlFlow;
 use time::Duration;
 
-// In nanoseconds.
+// 50 ms, 20 ms and 30 ms.
 const STORE_PARAMS_STATE_TIMEOUT: Duration = Duration(50_000_000);
 
 const STORE_PARAMS_DISABLE_SETTLE: Duration = Duration(20_000_000);

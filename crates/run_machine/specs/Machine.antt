@@ -21,7 +21,7 @@ machine_want (RequestFreshState timeout ask) = state_want ask
 machine_want (StoreParameters store) = store_want store
 machine_want (EnsureControlMode mode timeout switch) = switch_want mode switch
 
--- a read looks at its register's reply, a write at its ack, a switch by its phase; the others look at the record
+-- a read looks at its register's reply, a write at its ack, a switch by its stage; the others look at the record
 abbrev pub machine_place : Machine → Option Place
 machine_place (GetRegister data_type rid timeout ask) = Some (Reply rid)
 machine_place (WriteRegister rid value write) = Some (Ack rid)

@@ -1,6 +1,6 @@
 -- The register read: document 01's 'The runs'. Definitions only.
 use Rattle.std.specs.Prelude.{ℕ, cond, Result, Ok, Err}
-use Rattle.motor_core.specs.Outcome.{and_then}
+use Rattle.motor_core.specs.AndThen.{and_then}
 use Rattle.time.specs.declared.Duration.{Duration}
 use Rattle.registers.specs.Value.{of_type}
 use Rattle.registers.specs.declared.RegisterDataType.{RegisterDataType}

@@ -21,8 +21,8 @@ pub fn read_want(rid: u8, ask: Ask) -> Want<Message>
     ask_want(Message::ReadRegister(rid), ask)
 }
 
-// `entry` is what the cache holds of the register's replies. As one with the fresh state's step it would
-// take the look as a closure, and ask that it can be called.
+// `entry` is what the cache holds of the register's replies. One function for this and the fresh state's step
+// would take the look as a closure, with a `requires` that it can be called.
 fn read_step(
     timeout: Duration,
     entry: Entry,

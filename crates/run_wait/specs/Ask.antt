@@ -3,7 +3,7 @@ use Rattle.std.specs.Prelude.{Option, Some, None, Result, Ok}
 use Rattle.std.specs.declared.ops.ControlFlow.{ControlFlow}
 use Rattle.std.specs.declared.ops.ControlFlow.TheVariants.{Continue, Break}
 use Rattle.time.specs.declared.Instant.{Instant}
-use Rattle.motor_core.specs.Outcome.{and_then}
+use Rattle.motor_core.specs.AndThen.{and_then}
 use Rattle.time.specs.declared.Duration.{Duration}
 use Rattle.run_want.specs.Want.{reading_of, send_outcome}
 use Rattle.run_want.specs.declared.Answer.{Answer}

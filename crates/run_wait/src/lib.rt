@@ -12,7 +12,7 @@ use run_want::message::Message;
 use run_want::{Answer, Want, reading_of};
 use time::{Duration, Instant};
 
-// In nanoseconds.
+// 2 ms.
 pub const REGISTER_POLL_INTERVAL: Duration = Duration(2_000_000);
 
 // After a look that found nothing, with the wait's opening.

@@ -7,7 +7,7 @@ use Rattle.motor_core.specs.Bus.{motor_id_accepted}
 use Rattle.motor_core.specs.Model.{limits_of}
 use Rattle.motor_core.specs.declared.model.PvTLimits.{PvTLimits}
 use Rattle.motor_core.specs.declared.model.Maxima.{Maxima}
-use Rattle.motor_core.specs.Outcome.{and_then}
+use Rattle.motor_core.specs.AndThen.{and_then}
 use Rattle.motor_core.specs.declared.error.Refusal.TheVariants.{MotorId}
 use Rattle.protocol_frame.specs.Command.{command, frame_for}
 use Rattle.protocol_setpoint.specs.Setpoint.{mit_cmd}

@@ -12,7 +12,7 @@ use registers::RegisterValue;
 use std::ops::ControlFlow;
 use time::{Duration, Instant};
 
-// What is sent is a message, by which command it is, or to the caller a frame.
+// `M` is what is sent: inside a run a `Message`, for the caller its frame.
 #[derive(Clone, Copy)]
 pub enum Want<M> {
     Clock,

@@ -22,7 +22,6 @@ pub enum Message {
     Setpoint(ControlMode, F32Bits),
 }
 
-// The arbitration id.
 pub fn message_id(motor_id: u16, message: Message) -> u32
     ensures { result ≡ Spec.message_id motor_id message }
 {

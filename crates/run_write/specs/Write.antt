@@ -1,6 +1,6 @@
 -- The confirmed write: document 01's 'The runs', three tries. Definitions only.
 use Rattle.std.specs.Prelude.{ℕ, zero, suc, Ok, Err}
-use Rattle.motor_core.specs.Outcome.{and_then}
+use Rattle.motor_core.specs.AndThen.{and_then}
 use Rattle.time.specs.Time.{millis}
 use Rattle.time.specs.declared.Duration.{Duration}
 use Rattle.registers.specs.Value.{bits_of}

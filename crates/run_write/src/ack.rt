@@ -11,10 +11,10 @@ use state_cache::Entry;
 use std::ops::ControlFlow;
 use time::{Duration, Instant};
 
-// In nanoseconds.
+// 50 ms.
 const WRITE_REGISTER_ACK_TIMEOUT: Duration = Duration(50_000_000);
 
-// A state of a run as the others are: as an `Option`, the one before the wait would have no name.
+// A phase of a run as the others are: as an `Option`, the one before the wait would have no name.
 #[derive(Clone, Copy)]
 pub enum AckWait {
     Opening,

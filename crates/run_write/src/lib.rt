@@ -17,7 +17,7 @@ use time::Duration;
 
 const WRITE_REGISTER_ACK_ATTEMPTS: u8 = 3;
 
-// In nanoseconds.
+// 20 ms.
 const WRITE_REGISTER_ACK_RETRY_GAP: Duration = Duration(20_000_000);
 
 // `tries_left` is the number of tries after this one; in a gap, after the one that follows it.

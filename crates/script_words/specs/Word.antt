@@ -1,12 +1,8 @@
 -- The words of a line: what stands between its spaces. Two spaces in a row, or one at either end, make an empty word.
 use Rattle.std.specs.Prelude.{ℕ, List, [], ◌∷◌, eqb}
-use Rattle.std.specs.List.{position_or_len, slice_split, slice_get}
+use Rattle.std.specs.List.{slice_split, slice_get}
 use Rattle.std.specs.Option.{unwrap_or}
 use Prim.Native.Char.{code}
-
--- the index of the first b, or the length where there is none
-abbrev pub index_of : ℕ → List ℕ → ℕ
-index_of b s = position_or_len (λ x. eqb x b) s
 
 abbrev pub split : List ℕ → List (List ℕ)
 split line = slice_split (λ b. eqb b (code " ")) line

@@ -4,8 +4,8 @@
 
 mod numbers;
 
-ghost use Rattle.std.specs.Prelude.{◌≡◌, ◌+◌, drop};
-ghost use Rattle.script_words.specs.Word.{index_of, split, word_at, second};
+ghost use Rattle.std.specs.Prelude.{◌≡◌};
+ghost use Rattle.script_words.specs.Word.{split, word_at, second};
 
 pub use numbers::{field, number};
 
@@ -18,15 +18,6 @@ pub enum Kind {
     U32,
     U64,
     Name,
-}
-
-// The first place of `byte` in `s` from `from` on, or the end of `s`. No caller is left; four edits are
-// of its search, for any byte and from any place, and the other searches here have neither.
-pub fn index_of(s: &[u8], from: usize, byte: u8) -> usize
-    ensures { result ≡ from + index_of byte (drop from s.now) }
-{
-    let rest = s.get(from..).unwrap_or_default();
-    from + rest.iter().position(|b| *b == byte).unwrap_or(rest.len())
 }
 
 // The word of a line at this place, from 0 on. Empty where there is none.

@@ -7,7 +7,7 @@ use lib.Dec.{T}
 use lib.Ieee.{round, le}
 use Rattle.text.specs.Text.{same}
 use Rattle.std.specs.Prelude.{Result, Ok, Err}
-use Rattle.motor_core.specs.Outcome.{and_then}
+use Rattle.motor_core.specs.AndThen.{and_then}
 use Rattle.motor_core.specs.Model.{limit_accepted, from_maxima, limits_of}
 use Rattle.motor_core.specs.Name.{spelling}
 use Rattle.motor_core.specs.declared.error.Refusal.{Refusal}

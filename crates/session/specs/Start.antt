@@ -2,7 +2,7 @@
 use Rattle.std.specs.Prelude.{ℕ, cond, List, Result, Ok, Err}
 use Rattle.motor_core.specs.Bus.{motor_id_accepted}
 use Rattle.motor_core.specs.Model.{limits_of}
-use Rattle.motor_core.specs.Outcome.{and_then}
+use Rattle.motor_core.specs.AndThen.{and_then}
 use Rattle.motor_core.specs.declared.error.Refusal.{Refusal}
 use Rattle.motor_core.specs.declared.error.Refusal.TheVariants.{MotorId}
 use Rattle.motor_core.specs.declared.model.Maxima.{Maxima}

@@ -36,8 +36,8 @@ pub struct Session {
 }
 
 // A session goes by value, so that it stands beside what a call tells; first, since copies of it are
-// cheaper so. Each call by value lends its session in two lines: as one function those would take the call
-// as a closure, and ask that it can be called.
+// cheaper so. Each call by value lends its session in two lines: one function for all of them would take the
+// call as a closure, with a `requires` that it can be called.
 #[derive(Clone, Copy)]
 pub struct After<T> {
     pub session: Session,
@@ -53,7 +53,6 @@ pub fn accepts_frame(head: Head, frame: CanFrame) -> bool
     protocol_address::accepts_frame(frame, head.motor_id, head.feedback_id)
 }
 
-// The latest record, if there is one.
 pub fn latest_state_snapshot(head: Head) -> Option<FeedbackSnapshot>
     ensures { result ≡ head.feedback.latest }
 {

@@ -8,7 +8,7 @@ use crate::{Head, Session};
 use model_list::{ModelList, model_limits};
 use motor_core::bus::accepts_motor_id;
 use motor_core::error::Refusal;
-use motor_core::model::{Maxima, PvTLimits, from_maxima};
+use motor_core::model::{Maxima, PvTLimits, limits_of};
 use state_cache::Entry;
 use state_feedback::FeedbackCache;
 use time::Instant;
@@ -48,7 +48,7 @@ fn fresh(motor_id: u16, feedback_id: u16, limits: PvTLimits) -> Session
 pub fn from_limits(motor_id: u16, feedback_id: u16, maxima: Maxima) -> Result<Session, Refusal>
     ensures { result ≡ Spec.from_limits motor_id feedback_id maxima }
 {
-    let limits = from_maxima(maxima)?;
+    let limits = limits_of(maxima)?;
     if !accepts_motor_id(motor_id) {
         return Err(Refusal::MotorId);
     }

@@ -22,7 +22,7 @@ Follows before (Ok (Told.Result result)) s = s.run ≡ None
 Follows before (Err refusal) s = s ≡ before
 
 abbrev pub ToldTruly : Session → AfterCall → Type 0
-ToldTruly before turn = Follows before turn.told turn.session
+ToldTruly before after = Follows before after.told after.session
 
 -- ids, limits, record and caches are as they were
 pub record Unchanged (before after : Session) : Type 0 where

@@ -20,7 +20,6 @@ fn run_place(run: Option<Machine>) -> Option<Place>
     machine_place(run?)
 }
 
-// What is in a place.
 fn entry_at(session: &Session, place: Option<Place>) -> Entry
     ensures { result ≡ Spec.entry_at session.now.replies session.now.acks place }
 {

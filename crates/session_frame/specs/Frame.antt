@@ -1,6 +1,6 @@
 -- Taking a frame: what it does to each part of a session. Definitions only.
 use Rattle.std.specs.Prelude.{ℕ, cond, List, set, Result, Ok, Err, None, Option, Some}
-use Rattle.motor_core.specs.Outcome.{and_then}
+use Rattle.motor_core.specs.AndThen.{and_then}
 use Rattle.motor_core.specs.declared.error.Refusal.{Refusal}
 use Rattle.time.specs.Time.{reading_accepted}
 use Rattle.motor_core.specs.declared.bus.CanFrame.{CanFrame}

@@ -4,7 +4,7 @@ use mathlib.Core.Path.{◌≡◌, refl, sym, ap, ◌∙◌}
 use mathlib.Core.Bool.{true}
 use lib.ListN.{set}
 use Rattle.motor_core.proofs.Turned.{clash}
-use Rattle.motor_core.specs.Outcome.{and_then}
+use Rattle.motor_core.specs.AndThen.{and_then}
 use Rattle.motor_core.specs.declared.error.Refusal.{Refusal}
 use Rattle.motor_core.specs.declared.bus.CanFrame.{CanFrame}
 use Rattle.std.specs.Prelude.{Option, Result, Ok, Err}
@@ -16,7 +16,7 @@ use Rattle.protocol_frame.specs.Layout.{d}
 use Rattle.protocol_received.specs.declared.Received.{Received}
 use Rattle.protocol_received.specs.declared.Received.TheVariants.{Reply, Ack, Feedback}
 use Rattle.protocol_received.proofs.OfRegister.{of_register}
-use Rattle.state_cache.specs.Cache.{slot_place}
+use Rattle.state_cache.specs.Cache.{slot_index}
 use Rattle.state_cache.specs.declared.Entry.TheVariants.{Held}
 use Rattle.state_cache.proofs.Places.{own_slot}
 use Rattle.session.specs.declared.Session.{Session}
@@ -28,8 +28,8 @@ use Rattle.session_lent.specs.Lent.{put_kept, put_back}
 use Rattle.session.specs.Session.{with_head, with_replies, with_acks}
 
 -- a known register's place is its number
-place_of : (rid n : ℕ) → rid ≡ n → known n ≡ true → slot_place rid ≡ rid
-place_of rid n e k = ap slot_place e ∙ own_slot n (slot_place n) refl (known_below n k) ∙ sym e
+place_of : (rid n : ℕ) → rid ≡ n → known n ≡ true → slot_index rid ≡ rid
+place_of rid n e k = ap slot_index e ∙ own_slot n (slot_index n) refl (known_below n k) ∙ sym e
 
 module _ (s : Session) where
   back_taken : (id n : ℕ) (r : Received) (t : Instant) → OfRegister r n → put_back s (taken_step s.head id r t) ≡ with_received s id r t

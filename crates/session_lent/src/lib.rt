@@ -9,7 +9,7 @@ use motor_core::bus::CanFrame;
 use motor_core::error::Refusal;
 use session::{After, Session};
 use session_frame::{AfterFrame, frame_step};
-use state_cache::{Place, slot_place};
+use state_cache::{Place, slot_index};
 use time::Instant;
 
 // Takes a frame, with its reading, into the session that is lent.
@@ -26,8 +26,8 @@ pub fn process_feedback_frame(
     session.head = step.head;
     if let Some((place, entry)) = step.kept {
         match place {
-            Place::Reply(rid) => session.replies[slot_place(rid)] = entry,
-            Place::Ack(rid) => session.acks[slot_place(rid)] = entry,
+            Place::Reply(rid) => session.replies[slot_index(rid)] = entry,
+            Place::Ack(rid) => session.acks[slot_index(rid)] = entry,
         }
     }
     Ok(())

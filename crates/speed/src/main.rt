@@ -25,7 +25,7 @@ use std::time::CpuClock;
 // 65,536 inputs of five floats, 262,144 frames that are decoded or sorted, and 50,000 that are taken.
 type Floats = [[f32; 5]; 65_536];
 
-type Sorted = [[u8; 8]; 262_144];
+type SortedFrames = [[u8; 8]; 262_144];
 
 type Taken = [[u8; 8]; 50_000];
 
@@ -76,7 +76,7 @@ impl<'a, P: Print + CpuClock> Bench<'a, P> {
     }
 
     fn frame_rows(&mut self) {
-        let mut frames: Sorted = [[0; 8]; 262_144];
+        let mut frames: SortedFrames = [[0; 8]; 262_144];
         let fs = &mut frames;
         self.row("decode feedback", Frames::Feedback, fs, protocol::decode);
         self.row("sort replies", Frames::Replies, fs, protocol::sort);

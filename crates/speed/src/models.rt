@@ -29,7 +29,7 @@ fn query(input: [f32; 5]) -> Query {
     }
 }
 
-// A query's names are made and read where nothing goes round, so that the compiler need not copy them.
+// A query's names are made and read in a function without a loop, so that the compiler need not copy them.
 fn matched_total(list: &ModelList, input: [f32; 5]) -> u64 {
     match_models_by_limits(list, query(input), input[3]).map_or(0, |names| names_total(&names))
 }

@@ -1,6 +1,6 @@
 // Encoding, decoding and sorting, each with the limits of model 4310.
 use crate::sums::{float_bits, mixed};
-use motor_core::model::{Maxima, PvTLimits, from_maxima};
+use motor_core::model::{Maxima, PvTLimits, limits_of};
 use protocol_feedback::{SensorFeedback, decode_sensor_feedback};
 use protocol_received::{FrameClass, frame_class};
 use protocol_setpoint::{MitSetpoint, encode_mit_cmd};
@@ -28,7 +28,7 @@ fn encode_with(limits: PvTLimits, inputs: &[[f32; 5]]) -> u64 {
 }
 
 pub(crate) fn encode(inputs: &[[f32; 5]]) -> u64 {
-    from_maxima(MAXIMA_4310).map_or(0, |limits| encode_with(limits, inputs))
+    limits_of(MAXIMA_4310).map_or(0, |limits| encode_with(limits, inputs))
 }
 
 fn reading(f: SensorFeedback) -> f32 {
@@ -43,7 +43,7 @@ fn decode_with(limits: PvTLimits, frames: &[[u8; 8]]) -> u64 {
 }
 
 pub(crate) fn decode(frames: &[[u8; 8]]) -> u64 {
-    from_maxima(MAXIMA_4310).map_or(0, |limits| decode_with(limits, frames))
+    limits_of(MAXIMA_4310).map_or(0, |limits| decode_with(limits, frames))
 }
 
 fn class_number(class: FrameClass) -> u64 {

@@ -1,5 +1,5 @@
 // A session reads register 10, writes it or switches the mode, which that register is, once for each
-// frame. The motor answers every frame that is sent at once. The checksum has what the calls tell and
+// frame. The motor answers each frame at once. The checksum has what the calls tell and
 // all that a frame may change.
 use crate::sessions::{frame_of, session_4310, session_total};
 use crate::sums::mixed;
@@ -33,7 +33,7 @@ pub(crate) enum Kind {
 // checksum of what was told so far.
 #[derive(Clone, Copy)]
 struct Line {
-    turn: AfterCall,
+    after: AfterCall,
     value: u32,
     now: Instant,
     sum: u64,
@@ -90,33 +90,33 @@ fn told_total(sum: u64, told: Result<Told, Refusal>) -> u64 {
 }
 
 // What a call left, and what it told.
-fn hear(line: &mut Line, turn: AfterCall) {
-    line.turn = turn;
-    line.sum = told_total(line.sum, turn.told);
+fn hear(line: &mut Line, after: AfterCall) {
+    line.after = after;
+    line.sum = told_total(line.sum, after.told);
 }
 
 fn clock_read(line: &mut Line) {
     hear(
         line,
-        answer_run(line.turn.session, Answer::Reading(line.now)),
+        answer_run(line.after.session, Answer::Reading(line.now)),
     );
 }
 
 fn sent(line: &mut Line, data: u64) {
     let frame = motor_frame(line.value, data);
-    let taking = take_frame(line.turn.session, frame, line.now);
+    let taking = take_frame(line.after.session, frame, line.now);
     hear(line, answer_run(taking.session, Answer::Send(Ok(()))));
     line.value = value_after(line.value, data);
 }
 
 fn slept(line: &mut Line, length: Duration) {
-    hear(line, answer_run(line.turn.session, Answer::Slept));
+    hear(line, answer_run(line.after.session, Answer::Slept));
     line.now = Instant(line.now.0.wrapping_add(length.0));
 }
 
 // Does what is wanted, if anything is, and says so.
 fn answered(line: &mut Line) {
-    match line.turn.told {
+    match line.after.told {
         Ok(Told::Want(Want::Clock)) => clock_read(line),
         Ok(Told::Want(Want::Send(command))) => sent(line, command.data),
         Ok(Told::Want(Want::Sleep(length))) => slept(line, length),
@@ -126,7 +126,6 @@ fn answered(line: &mut Line) {
 
 // A run whose frames are answered at once is over after so many answers.
 fn answer_all(line: &mut Line, count: u64) {
-    // nothing is indexed
     for _ in 0..count {
         answered(line);
     }
@@ -140,14 +139,14 @@ fn one_run(kind: Kind, line: &mut Line, data: [u8; 8], place: u64) {
         Kind::Read => {
             line.value = value_in(data);
             line.now = Instant(place);
-            hear(line, get_register_u32(line.turn.session, 10, READ_TIMEOUT));
+            hear(line, get_register_u32(line.after.session, 10, READ_TIMEOUT));
             answer_all(line, 2);
         }
         Kind::Write => {
             line.now = Instant(place);
             hear(
                 line,
-                write_register_u32(line.turn.session, 10, value_in(data)),
+                write_register_u32(line.after.session, 10, value_in(data)),
             );
             answer_all(line, 2);
         }
@@ -155,7 +154,7 @@ fn one_run(kind: Kind, line: &mut Line, data: [u8; 8], place: u64) {
             let mode = (2 - place % 2) as u32;
             hear(
                 line,
-                ensure_control_mode(line.turn.session, mode, SWITCH_TIMEOUT),
+                ensure_control_mode(line.after.session, mode, SWITCH_TIMEOUT),
             );
             answer_all(line, 19);
         }
@@ -165,7 +164,7 @@ fn one_run(kind: Kind, line: &mut Line, data: [u8; 8], place: u64) {
 // The motor is in mode 1.
 fn at_first(session: Session) -> Line {
     Line {
-        turn: After {
+        after: After {
             session,
             told: Ok(Told::Want(Want::Clock)),
         },
@@ -180,7 +179,7 @@ fn runs_total(kind: Kind, session: Session, frames: &[[u8; 8]]) -> u64 {
     for (place, data) in frames.iter().enumerate() {
         one_run(kind, &mut line, *data, place as u64);
     }
-    mixed(line.sum, session_total(line.turn.session))
+    mixed(line.sum, session_total(line.after.session))
 }
 
 pub(crate) fn run_all(kind: Kind, frames: &[[u8; 8]]) -> u64 {

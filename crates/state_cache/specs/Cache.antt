@@ -17,8 +17,8 @@ value_in Empty = None
 value_in (Held value stamp) = Some value
 
 -- where it stands; a number from 82 on has no slot
-unfoldable pub slot_place : ℕ → ℕ
-slot_place rid = cond (ltb rid 82) rid 0
+unfoldable pub slot_index : ℕ → ℕ
+slot_index rid = cond (ltb rid 82) rid 0
 
 -- its entry; 'Turned back', 4, where no register has the number
 abbrev pub cached_entry : List Entry → ℕ → Result Entry Refusal

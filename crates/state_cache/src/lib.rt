@@ -9,7 +9,7 @@ use motor_core::error::Refusal;
 use registers::RegisterValue;
 use time::Instant;
 
-// What the motor last said of a register. The two cases are named by the request that this is built to.
+// What the motor last said of a register. Document 01 names the two cases.
 #[derive(Clone, Copy)]
 pub enum Entry {
     Empty,
@@ -37,9 +37,9 @@ impl Entry {
 
 // Where a register's slot stands; for a number from 82 on, which has none, 0. The test is there for the
 // compiler too: knowing the bound, it copies a session whole and not field by field.
-#[tactic(auto, unfolding(crate::specs::Cache::slot_place))]
-pub fn slot_place(rid: u8) -> usize
-    ensures { result ≡ Spec.slot_place rid }
+#[tactic(auto, unfolding(crate::specs::Cache::slot_index))]
+pub fn slot_index(rid: u8) -> usize
+    ensures { result ≡ Spec.slot_index rid }
 {
     if rid < 82 { usize::from(rid) } else { 0 }
 }

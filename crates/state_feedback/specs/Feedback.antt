@@ -27,14 +27,14 @@ state_of arbitration f = record {
 }
 
 -- one more, up to the greatest number of 64 bits
-abbrev pub next_number : ℕ → ℕ
-next_number n = min (n + 1) (2 ^ 64 - 1)
+abbrev pub next_sequence : ℕ → ℕ
+next_sequence n = min (n + 1) (2 ^ 64 - 1)
 
 -- a feedback becomes the latest record, with the next number and its stamp
 abbrev pub update : FeedbackCache → MotorFeedbackState → Instant → FeedbackCache
 update cache state at = record {
-  latest = Some (record { state = state; received_at = at; sequence = next_number cache.sequence });
-  sequence = next_number cache.sequence;
+  latest = Some (record { state = state; received_at = at; sequence = next_sequence cache.sequence });
+  sequence = next_sequence cache.sequence;
 }
 
 -- a patch's three bytes in a record's state: the status, by its name too, and the temperatures as floats

@@ -53,8 +53,8 @@ pub fn state_of(arbitration_id: u32, decoded: SensorFeedback) -> MotorFeedbackSt
 }
 
 // The number after this one; the greatest stays.
-fn next_number(sequence: u64) -> u64
-    ensures { result ≡ Spec.next_number sequence }
+fn next_sequence(sequence: u64) -> u64
+    ensures { result ≡ Spec.next_sequence sequence }
 {
     sequence.saturating_add(1)
 }
@@ -67,7 +67,7 @@ pub fn update(
 ) -> FeedbackCache
     ensures { result ≡ Spec.update cache state received_at }
 {
-    let sequence = next_number(cache.sequence);
+    let sequence = next_sequence(cache.sequence);
     FeedbackCache {
         latest: Some(FeedbackSnapshot {
             state,

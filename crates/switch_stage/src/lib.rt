@@ -53,7 +53,7 @@ pub enum Stage {
 }
 
 // Before its first reading a switch keeps nothing.
-// A state of a run as the others are: as an `Option`, the first would have no name.
+// A phase of a run as the others are: as an `Option`, the first would have no name.
 #[derive(Clone, Copy)]
 pub enum Switch {
     Starting,

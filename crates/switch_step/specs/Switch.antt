@@ -1,6 +1,6 @@
 -- The mode switch, `ensure_control_mode`: document 01's 'The runs'. Definitions only.
 use Rattle.std.specs.Prelude.{zero, suc, cond, Option, Some, None, Ok, Err}
-use Rattle.motor_core.specs.Outcome.{and_then}
+use Rattle.motor_core.specs.AndThen.{and_then}
 use Rattle.time.specs.declared.Instant.{Instant}
 use Rattle.time.specs.declared.Duration.{Duration}
 use Rattle.registers.specs.Value.{same_value}
@@ -28,7 +28,7 @@ use Rattle.switch_stage.specs.declared.Switch.TheVariants.{Starting, Begun}
 use Rattle.switch_stage.specs.Stage.{mode_value, goes}
 use Rattle.switch_prepare.specs.Prepare.{prepare, hold_time, after_hold_read, cleared}
 use Rattle.switch_finish.specs.declared.Finishing.TheVariants.{Done}
-use Rattle.switch_write.specs.WriteMode.{write_mode, after_prepare, after_mode_write, after_finish, slept, settle_sleep}
+use Rattle.switch_write.specs.WriteMode.{write_mode, after_prepare, after_mode_write, after_finish, after_settling, settle_sleep}
 
 -- ---- what a switch keeps
 
@@ -91,7 +91,7 @@ stage_step mode timeout entry p (HoldReading length ask) answer = after_prepare 
 stage_step mode timeout entry p (Clearing channel) answer = after_prepare (cleared channel p)
 stage_step mode timeout entry p (Writing verifies_left write) answer = after_mode_write verifies_left p (write_step (mode_value mode) entry write answer)
 stage_step mode timeout entry p (SettleRemaining verifies_left) answer = settle_sleep mode timeout verifies_left p (reading_of answer)
-stage_step mode timeout entry p (SettleSleep verifies_left length) answer = slept mode verifies_left p
+stage_step mode timeout entry p (SettleSleep verifies_left length) answer = after_settling mode verifies_left p
 stage_step mode timeout entry p (Holding verifies_left) answer = and_then (send_outcome answer) (λ sent. after_finish verifies_left p Done)
 
 -- the first reading sets the deadline

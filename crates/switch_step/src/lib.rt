@@ -17,7 +17,7 @@ use switch_prepare::{after_hold_read, cleared, hold_time, prepare};
 use switch_stage::{ModeRead, Progress, Stage, Switch, goes, mode_value};
 use switch_time::{capped_remaining, deadline_after, mode_read_cap};
 use switch_write::{
-    after_finish, after_mode_write, after_prepare, settle_sleep, slept, write_mode,
+    after_finish, after_mode_write, after_prepare, after_settling, settle_sleep, write_mode,
 };
 use time::{Duration, Instant};
 
@@ -141,7 +141,7 @@ fn stage_step(
             progress,
             reading_of(answer),
         ),
-        Stage::SettleSleep(verifies_left, _) => slept(mode, verifies_left, progress),
+        Stage::SettleSleep(verifies_left, _) => after_settling(mode, verifies_left, progress),
         Stage::Holding(verifies_left) => {
             send_outcome(answer)?;
             after_finish(verifies_left, progress, Finishing::Done)

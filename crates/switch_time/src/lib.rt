@@ -8,7 +8,7 @@ ghost use Rattle.switch_time.specs.TimeLeft as Spec;
 use run_wait::REGISTER_POLL_INTERVAL;
 use time::{Duration, Instant};
 
-// In nanoseconds.
+// 100 ms, 30 ms and 20 ms.
 const ENSURE_MODE_REGISTER_READ_TIMEOUT: Duration = Duration(100_000_000);
 
 const ENSURE_MODE_HOLD_POSITION_TIMEOUT: Duration = Duration(30_000_000);

@@ -38,12 +38,12 @@ abbrev pub after_finish : ℕ → Progress → Finishing → Stepped Switch (Uni
 after_finish verifies_left p Holds = goes p (Holding verifies_left)
 after_finish verifies_left p Done = goes p (Remaining (Verify verifies_left))
 
-abbrev pub slept : ControlMode → ℕ → Progress → Stepped Switch (Unit {0})
-slept mode verifies_left p = after_finish verifies_left p (finish mode p.hold_position)
+abbrev pub after_settling : ControlMode → ℕ → Progress → Stepped Switch (Unit {0})
+after_settling mode verifies_left p = after_finish verifies_left p (finish mode p.hold_position)
 
 -- the settling sleep; the cap of a mode read is left in reserve
 abbrev pub settled : ControlMode → ℕ → Progress → Option Duration → Stepped Switch (Unit {0})
-settled mode verifies_left p None = slept mode verifies_left p
+settled mode verifies_left p None = after_settling mode verifies_left p
 settled mode verifies_left p (Some length) = goes p (SettleSleep verifies_left length)
 
 abbrev pub settle_sleep : ControlMode → Duration → ℕ → Progress → Instant → Stepped Switch (Unit {0})

@@ -58,9 +58,13 @@ pub fn after_finish(verifies_left: u8, progress: Progress, next: Finishing) -> S
     }
 }
 
-// What follows the settling sleep.
-pub fn slept(mode: ControlMode, verifies_left: u8, progress: Progress) -> Stepped<Switch, ()>
-    ensures { result ≡ Spec.slept mode verifies_left progress }
+// What follows the settling sleep, or the reading that leaves no time for one.
+pub fn after_settling(
+    mode: ControlMode,
+    verifies_left: u8,
+    progress: Progress,
+) -> Stepped<Switch, ()>
+    ensures { result ≡ Spec.after_settling mode verifies_left progress }
 {
     after_finish(
         verifies_left,
@@ -80,7 +84,7 @@ pub fn settle_sleep(
     ensures { result ≡ Spec.settle_sleep mode timeout verifies_left progress now }
 {
     match sleep_up_to_reserving(progress.deadline, mode_read_cap(timeout), now) {
-        None => slept(mode, verifies_left, progress),
+        None => after_settling(mode, verifies_left, progress),
         Some(length) => goes(progress, Stage::SettleSleep(verifies_left, length)),
     }
 }

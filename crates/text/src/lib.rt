@@ -14,8 +14,7 @@ pub fn same_bytes(a: &[u8], b: &[u8]) -> bool
     a == b
 }
 
-// Puts `text` into `out` from `at` on, and answers the place after it. There is no heap for a `Vec` that
-// keeps its place; a program's page can (`Page` of drive).
+// Puts `text` into `out` from `at` on, and answers the place after it; what does not fit is dropped.
 #[tactic(auto, unfolding(crate::specs::Text::place_after, crate::specs::Text::put_at))]
 pub fn put(out: &mut [u8], at: usize, text: &[u8]) -> usize
     ensures { (out.new ≡ put_at out.old at text.now) × (result ≡ place_after out.old at text.now) }

@@ -14,7 +14,7 @@ pub struct Duration(pub u64);
 // The latest reading that is accepted.
 const LATEST: Instant = Instant(0x4000_0000_0000_0000);
 
-// The longest wait that is.
+// The longest timeout that is accepted.
 const LONGEST: Duration = Duration(60_000_000_000);
 
 // Whether a reading may follow the last: it does not go back, and is at most 2^62.

@@ -15,11 +15,11 @@ returns-in_default-clause-session c = taken_session _ _ _ _ c.frame_step.ensures
 pub returns-in-Reply-clause-session : goal.returns-in-Reply-clause-session
 returns-in-Reply-clause-session c =
     let s = c.args.session.now in
-    ap (λ (p : ℕ). with_replies (with_head s c.in_ok-step.step.head) (set s.replies p c.in-Some.entry)) c.slot_place.ensures
+    ap (λ (p : ℕ). with_replies (with_head s c.in_ok-step.step.head) (set s.replies p c.in-Some.entry)) c.slot_index.ensures
     ∙ taken_session _ _ _ _ c.frame_step.ensures _ (Some (Reply c.in-Reply.rid, c.in-Some.entry)) c.in_ok-step.was (c.in-Some.is ∙ ap (λ (p : Place). Some (p, c.in-Some.entry)) c.in-Reply.is)
 
 pub returns-in-Ack-clause-session : goal.returns-in-Ack-clause-session
 returns-in-Ack-clause-session c =
     let s = c.args.session.now in
-    ap (λ (p : ℕ). with_acks (with_head s c.in_ok-step.step.head) (set s.acks p c.in-Some.entry)) c.slot_place-in-Ack.ensures
+    ap (λ (p : ℕ). with_acks (with_head s c.in_ok-step.step.head) (set s.acks p c.in-Some.entry)) c.slot_index-in-Ack.ensures
     ∙ taken_session _ _ _ _ c.frame_step.ensures _ (Some (Ack c.in-Ack.rid, c.in-Some.entry)) c.in_ok-step.was (c.in-Some.is ∙ ap (λ (p : Place). Some (p, c.in-Some.entry)) c.in-Ack.is)
