@@ -60,7 +60,7 @@ pub fn latest_state_snapshot(head: Head) -> Option<FeedbackSnapshot>
 }
 
 // Sets status and temperatures of the latest record, and answers whether there is one.
-fn patch_lent(session: &mut Session, status: u8, t_mos: u8, t_rotor: u8) -> bool
+pub fn patch_lent(session: &mut Session, status: u8, t_mos: u8, t_rotor: u8) -> bool
     ensures told { result ≡ (Spec.patch session.old status t_mos t_rotor).told }
     ensures session { session.new ≡ (Spec.patch session.old status t_mos t_rotor).session }
 {

@@ -32,7 +32,7 @@ fn entry_at(session: &Session, place: Option<Place>) -> Entry
 
 // Answers what the run of the session that is lent wants.
 #[tactic(auto, unfolding(crate::specs::Answer::answer_run))]
-fn answer_lent(session: &mut Session, answer: Answer) -> Result<Told, Refusal>
+pub fn answer_lent(session: &mut Session, answer: Answer) -> Result<Told, Refusal>
     ensures told { result ≡ (Spec.answer_run session.old answer).told }
     ensures session { session.new ≡ (Spec.answer_run session.old answer).session }
 {

@@ -7,20 +7,21 @@ use Rattle.session.specs.declared.Session.{Session}
 use Rattle.session_answer.specs.Effects.{ToldTruly, Unchanged}
 use Rattle.session_answer.specs.Answer.{AfterCall}
 use Rattle.session_answer.proofs.Effects.{untouched}
-use Rattle.session_begin.specs.Begin.{start_step, with_opened, begin}
+use Rattle.session_begin.specs.Begin.{machine_of, start_step, with_opened, begin}
+use Rattle.session_begin.specs.declared.Start.{Start}
 
 -- it is refused, or opens a run where none is open
 
-module _ (s : Session) (start : Result Machine Refusal) where
-  pub start_cases : (P : AfterCall → Type 0) → ((n : Refusal) → P (record { session = s; told = Err n })) → ((m : Machine) → s.run ≡ None → start ≡ Ok m → P (with_opened s (Ok m))) → P (begin s start)
+module _ (s : Session) (start : Start) where
+  pub start_cases : (P : AfterCall → Type 0) → ((n : Refusal) → P (record { session = s; told = Err n })) → ((m : Machine) → s.run ≡ None → machine_of start ≡ Ok m → P (with_opened s (Ok m))) → P (begin s start)
   start_cases P no_turn turn = by s.run refl
     where
-      go : s.run ≡ None → (x : Result Machine Refusal) → start ≡ x → P (with_opened s x)
+      go : s.run ≡ None → (x : Result Machine Refusal) → machine_of start ≡ x → P (with_opened s x)
       go c (Err n) e = no_turn n
       go c (Ok m) e = turn m c e
 
       by : (p : Option Machine) → s.run ≡ p → P (with_opened s (start_step p start))
-      by None e = go e start refl
+      by None e = go e (machine_of start) refl
       by (Some m) e = no_turn Refusal.RunOpen
 
   pub start_follows : ToldTruly s (begin s start)
@@ -37,5 +38,5 @@ module _ (s : Session) (start : Result Machine Refusal) where
       same = record { motor_id = refl; feedback_id = refl; limits = refl; record_kept = refl; replies = refl; acks = refl }
 
 -- a refusal
-pub start_refused : (s : Session) (start : Result Machine Refusal) (n : Refusal) → (begin s start).told ≡ Err n → (begin s start).session ≡ s
+pub start_refused : (s : Session) (start : Start) (n : Refusal) → (begin s start).told ≡ Err n → (begin s start).session ≡ s
 start_refused s start n e = untouched s (begin s start).session (begin s start).told n e (start_follows s start)

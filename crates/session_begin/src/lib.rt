@@ -3,7 +3,17 @@
 #![tactic(auto)]
 
 ghost use Rattle.std.specs.Prelude.{◌≡◌};
+ghost use Rattle.session_begin.specs.Begin.{begin};
 ghost use Rattle.session_begin.specs.Begin as Spec;
+ghost use Rattle.session_begin.specs.declared.Start.TheVariants.{
+  GetRegisterU32,
+  GetRegisterF32,
+  WriteRegisterU32,
+  WriteRegisterF32,
+  RequestFreshState,
+  StoreParameters,
+  EnsureControlMode,
+};
 
 use float::F32Bits;
 use motor_core::error::Refusal;
@@ -15,20 +25,49 @@ use session_answer::AfterCall;
 use session_step::{Told, caller_want};
 use time::Duration;
 
+// A run that is to be started, with its arguments.
+#[derive(Clone, Copy)]
+pub enum Start {
+    GetRegisterU32(u8, Duration),
+    GetRegisterF32(u8, Duration),
+    WriteRegisterU32(u8, u32),
+    WriteRegisterF32(u8, F32Bits),
+    RequestFreshState(Duration),
+    StoreParameters,
+    EnsureControlMode(u32, Duration),
+}
+
+// The machine that a start's arguments make.
+fn machine_of(start: Start) -> Result<Machine, Refusal>
+    ensures { result ≡ Spec.machine_of start }
+{
+    match start {
+        Start::GetRegisterU32(rid, timeout) => get_start(RegisterDataType::UInt32, rid, timeout),
+        Start::GetRegisterF32(rid, timeout) => get_start(RegisterDataType::Float, rid, timeout),
+        Start::WriteRegisterU32(rid, value) => write_start(rid, RegisterValue::UInt32(value)),
+        Start::WriteRegisterF32(rid, value) => {
+            write_start(rid, value_from_bits(RegisterDataType::Float, value.0))
+        }
+        Start::RequestFreshState(timeout) => fresh_state_start(timeout),
+        Start::StoreParameters => Ok(store_start()),
+        Start::EnsureControlMode(mode, timeout) => mode_start(mode, timeout),
+    }
+}
+
 // The machine of a start, where no run is open.
-fn start_step(run: Option<Machine>, start: Result<Machine, Refusal>) -> Result<Machine, Refusal>
+fn start_step(run: Option<Machine>, start: Start) -> Result<Machine, Refusal>
     ensures { result ≡ Spec.start_step run start }
 {
     if run.is_some() {
         return Err(Refusal::RunOpen);
     }
-    start
+    machine_of(start)
 }
 
 // Opens a run in the session that is lent.
-fn begin_lent(session: &mut Session, start: Result<Machine, Refusal>) -> Result<Told, Refusal>
-    ensures told { result ≡ (Spec.begin session.old start).told }
-    ensures session { session.new ≡ (Spec.begin session.old start).session }
+pub fn begin_lent(session: &mut Session, start: Start) -> Result<Told, Refusal>
+    ensures told { result ≡ (begin session.old start).told }
+    ensures session { session.new ≡ (begin session.old start).session }
 {
     let machine = start_step(session.run, start)?;
     session.run = Some(machine);
@@ -37,8 +76,8 @@ fn begin_lent(session: &mut Session, start: Result<Machine, Refusal>) -> Result<
 
 // The same for a session that goes by value: it is lent for the start and handed back, in two lines for the
 // reason at `After`.
-fn begin(mut session: Session, start: Result<Machine, Refusal>) -> AfterCall
-    ensures { result ≡ Spec.begin session start }
+fn begin(mut session: Session, start: Start) -> AfterCall
+    ensures { result ≡ begin session start }
 {
     let told = begin_lent(&mut session, start);
     After { session, told }
@@ -46,64 +85,54 @@ fn begin(mut session: Session, start: Result<Machine, Refusal>) -> AfterCall
 
 // Reads a register that holds a whole number; refused where a run is open, the register is unknown or the
 // timeout too long.
-#[tactic(auto, unfolding(crate::specs::Begin::get_register_u32))]
 pub fn get_register_u32(session: Session, rid: u8, timeout: Duration) -> AfterCall
-    ensures { result ≡ Spec.get_register_u32 session rid timeout }
+    ensures { result ≡ begin session (GetRegisterU32 rid timeout) }
 {
-    begin(session, get_start(RegisterDataType::UInt32, rid, timeout))
+    begin(session, Start::GetRegisterU32(rid, timeout))
 }
 
 // Reads a register that holds a float; refused where a run is open, the register is unknown or the
 // timeout too long.
-#[tactic(auto, unfolding(crate::specs::Begin::get_register_f32))]
 pub fn get_register_f32(session: Session, rid: u8, timeout: Duration) -> AfterCall
-    ensures { result ≡ Spec.get_register_f32 session rid timeout }
+    ensures { result ≡ begin session (GetRegisterF32 rid timeout) }
 {
-    begin(session, get_start(RegisterDataType::Float, rid, timeout))
+    begin(session, Start::GetRegisterF32(rid, timeout))
 }
 
 // Writes a whole number and waits for its ack; refused where a run is open, the register is unknown
 // or can only be read, or holds the other type.
-#[tactic(auto, unfolding(crate::specs::Begin::write_register_u32))]
 pub fn write_register_u32(session: Session, rid: u8, value: u32) -> AfterCall
-    ensures { result ≡ Spec.write_register_u32 session rid value }
+    ensures { result ≡ begin session (WriteRegisterU32 rid value) }
 {
-    begin(session, write_start(rid, RegisterValue::UInt32(value)))
+    begin(session, Start::WriteRegisterU32(rid, value))
 }
 
 // Writes a float, given by its bits, and waits for its ack; refused where a run is open, the register is unknown
 // or can only be read, or holds the other type.
-#[tactic(auto, unfolding(crate::specs::Begin::write_register_f32))]
 pub fn write_register_f32(session: Session, rid: u8, value: F32Bits) -> AfterCall
-    ensures { result ≡ Spec.write_register_f32 session rid value }
+    ensures { result ≡ begin session (WriteRegisterF32 rid value) }
 {
-    begin(
-        session,
-        write_start(rid, value_from_bits(RegisterDataType::Float, value.0)),
-    )
+    begin(session, Start::WriteRegisterF32(rid, value))
 }
 
 // Asks the motor for its state; refused where a run is open or the timeout is too long.
-#[tactic(auto, unfolding(crate::specs::Begin::request_fresh_state))]
 pub fn request_fresh_state(session: Session, timeout: Duration) -> AfterCall
-    ensures { result ≡ Spec.request_fresh_state session timeout }
+    ensures { result ≡ begin session (RequestFreshState timeout) }
 {
-    begin(session, fresh_state_start(timeout))
+    begin(session, Start::RequestFreshState(timeout))
 }
 
 // Stores the motor's parameters, disabling it first if need be; refused where a run is open.
-#[tactic(auto, unfolding(crate::specs::Begin::store_parameters))]
 pub fn store_parameters(session: Session) -> AfterCall
-    ensures { result ≡ Spec.store_parameters session }
+    ensures { result ≡ begin session StoreParameters }
 {
-    begin(session, Ok(store_start()))
+    begin(session, Start::StoreParameters)
 }
 
 // Switches the motor to a control mode, 1 to 4; refused where a run is open, the mode is another or
 // the timeout too long.
-#[tactic(auto, unfolding(crate::specs::Begin::ensure_control_mode))]
 pub fn ensure_control_mode(session: Session, mode: u32, timeout: Duration) -> AfterCall
-    ensures { result ≡ Spec.ensure_control_mode session mode timeout }
+    ensures { result ≡ begin session (EnsureControlMode mode timeout) }
 {
-    begin(session, mode_start(mode, timeout))
+    begin(session, Start::EnsureControlMode(mode, timeout))
 }
