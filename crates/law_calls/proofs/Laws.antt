@@ -1,0 +1,178 @@
+-- The laws of lists hold. Assumes nothing.
+use Rattle.std.specs.Prelude.{None, Option, Some, Ok, Err}
+use Prim.Native.Nat.{ℕ}
+use mathlib.Core.Path.{◌≡◌, refl, sym, ap, ◌∙◌, subst}
+use mathlib.Core.List.{List}
+use Rattle.motor_core.specs.declared.bus.CanFrame.{CanFrame}
+use Rattle.motor_core.specs.declared.error.Refusal.{Refusal}
+use Rattle.time.specs.declared.Instant.{Instant}
+use Rattle.state_cache.specs.declared.Entry.{Entry}
+use Rattle.state_cache.specs.declared.Place.{Place}
+use Rattle.state_feedback.proofs.Patching.{patch_held, patch_keeps}
+use Rattle.state_feedback.specs.Feedback.{patched}
+use Rattle.state_feedback.specs.declared.FeedbackCache.{FeedbackCache}
+use Rattle.state_feedback.specs.declared.FeedbackSnapshot.{FeedbackSnapshot}
+use Rattle.run_machine.specs.declared.Machine.{Machine}
+use Rattle.run_machine.specs.Machine.{machine_want}
+use Rattle.session.proofs.Patching.{left, nothing_patched, record_after_patch}
+use Rattle.session.specs.Session.{patch}
+use Rattle.session.specs.declared.Head.{Head}
+use Rattle.session.specs.declared.Session.{Session}
+use Rattle.session_frame.proofs.Effects as Frame
+use Rattle.session_answer.proofs.Effects.{answer_keeps}
+use Rattle.session_answer.specs.Answer.{AfterCall}
+use Rattle.session_begin.proofs.Effects.{start_cases, start_keeps, start_last}
+use Rattle.session_begin.specs.Begin.{machine_of, with_opened, begin}
+use Rattle.session_begin.specs.declared.Start.{Start}
+use Rattle.session_call.specs.Step.{step}
+use Rattle.session_call.specs.declared.Call.{Call}
+use Rattle.session_call.specs.declared.Returned.{Returned}
+use Rattle.law_calls.specs.Calls.{Answered, Accepted, open_want, Fresh, events, session_after}
+use Rattle.state_cache.specs.declared.Entry.TheVariants.{Empty}
+use Prim.Native.Nat.{◌≤◌}
+use Rattle.law_calls.specs.Laws.{held, stamp_of, record_stamp, Leaves, PatchLeaves, SameLatest, OfRun, Laws}
+use Rattle.law_calls.specs.Places.{Sees, nothing, seen_after, last_taken}
+use Rattle.law_calls.specs.Turns.{turns, turns_after, result_in}
+use Rattle.law_calls.proofs.Ended.{still_open, answered, alone, closed_after}
+use Rattle.law_calls.proofs.Lists.{sessions_joined, events_joined, places_joined, turns_joined, turns_over, counts_joined}
+use Rattle.law_calls.proofs.Origin.{origin}
+use Rattle.law_calls.proofs.Ran.{ran}
+use Rattle.law_calls.proofs.Readings.{readings, list_stamps}
+use Rattle.law_calls.proofs.Sessions.{Sound, list_sound, list_held, refused_leaves}
+use Rattle.law_calls.proofs.Started.{fresh_sound, fresh_holds, fresh_stamped}
+use Rattle.law_calls.proofs.Turning.{turn_calls}
+
+-- ---- what a call leaves alone
+
+patch_leaves : (s : Session) (status mos rotor : ℕ) → PatchLeaves s (patch s status mos rotor).session
+patch_leaves s status mos rotor =
+    let kept = left s status mos rotor in
+    let of_record = go s.head.feedback.latest refl in
+    record {
+      motor = record { motor_id = kept.motor_id; feedback_id = kept.feedback_id; limits = kept.limits };
+      latest = of_record.0;
+      sequence = of_record.1;
+      last = kept.last;
+      replies = kept.replies;
+      acks = kept.acks;
+      run = kept.run;
+    }
+  where
+    same_record : (r : FeedbackSnapshot) → SameLatest (Some r) (patched s.head.feedback status mos rotor r).latest
+    same_record r = let kept = patch_keeps r status mos rotor in
+        record { number = kept.number; stamp = kept.stamp; motor = kept.motor; arbitration_id = kept.arbitration_id; position = kept.position; velocity = kept.velocity; torque = kept.torque }
+
+    go : (l : Option FeedbackSnapshot) → s.head.feedback.latest ≡ l → SameLatest s.head.feedback.latest (patch s status mos rotor).session.head.feedback.latest × ((patch s status mos rotor).session.head.feedback.sequence ≡ s.head.feedback.sequence)
+    go None e =
+        let same = nothing_patched s status mos rotor e in
+        (subst (λ (x : Session). SameLatest s.head.feedback.latest x.head.feedback.latest) (sym same) (subst (λ (l : Option FeedbackSnapshot). SameLatest l l) (sym e) tt), ap (λ (x : Session). x.head.feedback.sequence) same)
+    go (Some r) e =
+        let is = record_after_patch s status mos rotor (patched s.head.feedback status mos rotor r) (patch_held s.head.feedback status mos rotor r e) in
+        (subst (λ (l : Option FeedbackSnapshot). SameLatest l (patch s status mos rotor).session.head.feedback.latest) (sym e) (subst (λ (cache : FeedbackCache). SameLatest (Some r) cache.latest) (sym is) (same_record r)), ap (λ (cache : FeedbackCache). cache.sequence) is)
+
+frame_motor : (s : Session) (f : CanFrame) (t : Instant) → Leaves (Call.Frame f t) s (step s (Call.Frame f t)).session
+unfolding Leaves step
+frame_motor s f t = let kept = Frame.left s f t in (record { motor_id = kept.motor_id; feedback_id = kept.feedback_id; limits = kept.limits }, kept.run)
+
+leaves : (s : Session) (c : Call) → Leaves c s (step s c).session
+unfolding step Leaves
+leaves s (Call.Start b) = (start_keeps s b, start_last s b)
+leaves s (Call.Answer a) = answer_keeps s a
+leaves s (Call.Frame f t) = frame_motor s f t
+leaves s (Call.Patch status mos rotor) = patch_leaves s status mos rotor
+
+-- ---- what a session holds
+
+module _ (motor feedback : ℕ) (s : Session) (fresh : Fresh motor feedback s) (cs : List Call) where
+  holds_last : (place : Place) → held (session_after s cs) place ≡ last_taken place Empty (events s cs)
+  holds_last place = list_held s.head cs s (fresh_sound motor feedback s fresh) place ∙ ap (λ (e : Entry). last_taken place e (events s cs)) (fresh_holds motor feedback s fresh place)
+
+  sees_taken : held (session_after s cs) ≡ seen_after nothing (events s cs)
+  sees_taken = λ i place. holds_last place i
+
+-- ---- runs
+
+told_in : Answered → Returned → Answered
+told_in t (Returned.Run x) = x
+told_in t (Returned.Frame outcome) = t
+told_in t (Returned.Patch done) = t
+
+module _ (s : Session) (sound : Sound s.head s) (b : Start) (after : List Call) where
+  -- of what a start came to
+  abbrev Starts : AfterCall → Type 0
+  Starts r =
+      (w : Answered) → Returned.Run r.told ≡ Returned.Run w → Accepted w
+      → OfRun s b (record { told = w; wants = open_want r.session.run }) (turns_after w (held s) (events r.session after)) (session_after r.session after)
+
+  refused_start : (k : Refusal) → Starts (record { session = s; told = Err k })
+  unfolding Accepted told_in
+  refused_start k w e accepted = absurd (subst Accepted (sym (ap (told_in w) e)) accepted)
+
+  module _ (m : Machine) (opens : machine_of b ≡ Ok m) where
+    abbrev began : AfterCall
+    began = with_opened s (Ok m)
+
+    began_sound : Sound s.head began.session
+    began_sound = record { motor_id = refl; feedback_id = refl; limits = refl; replies = sound.replies; acks = sound.acks; last = sound.last }
+
+    -- its turns are its steps, and so its result is theirs
+    of_run : OfRun s b (record { told = began.told; wants = Some (machine_want m) }) (turns_after began.told (held s) (events began.session after)) (session_after began.session after)
+    unfolding turns_after result_in
+    of_run =
+        let end = session_after began.session after in
+        let ts = turns (held s) (events began.session after) in
+        let steps = ran s.head after began.session m refl began_sound in
+        record {
+          machine = m;
+          opened = opens;
+          wants = refl;
+          steps = steps;
+          answerable = λ e. answered s.head end (still_open s.head end ts m s.head.last steps e);
+          alone = λ e. alone s.head end (still_open s.head end ts m s.head.last steps e);
+          closes = λ r e. closed_after s.head end ts m s.head.last _ r steps e;
+        }
+
+    accepted_start : Starts began
+    unfolding told_in
+    accepted_start w e accepted =
+        subst (λ (w : Answered). OfRun s b (record { told = w; wants = Some (machine_want m) }) (turns_after w (held s) (events began.session after)) (session_after began.session after)) (ap (told_in began.told) e) of_run
+
+  any_start : Starts (begin s b)
+  any_start = start_cases s b Starts refused_start (λ m c e. accepted_start m e)
+
+-- the ids and limits of a session in the list are its own
+own_sound : (h : Head) (s : Session) → Sound h s → Sound s.head s
+own_sound h s sound = record { motor_id = refl; feedback_id = refl; limits = refl; replies = sound.replies; acks = sound.acks; last = sound.last }
+
+pub laws : Laws
+unfolding step
+laws = record {
+  refusals = refused_leaves;
+  leaves = leaves;
+  sessions_joined = sessions_joined;
+  events_joined = events_joined;
+  places_joined = places_joined;
+  turns_joined = λ sees us vs. turns_joined us vs sees;
+  turns_over = λ sees us vs. turns_over us vs sees;
+  counts_joined = counts_joined;
+  holds_last = holds_last;
+  origin = origin;
+  turn_calls = λ s sees cs earlier t later. turn_calls t later cs s sees earlier;
+  readings = λ s cs. readings cs s;
+  bounded = λ motor feedback s fresh cs.
+      let sound = fresh_sound motor feedback s fresh in
+      let stamped = (list_stamps s.head cs s sound (fresh_stamped motor feedback s fresh)).1 in
+      ((list_sound s.head cs s sound).last, stamped.at_place, stamped.latest);
+  stamps = λ motor feedback s fresh bs cs.
+      let sound = fresh_sound motor feedback s fresh in
+      let there = list_stamps s.head bs s sound (fresh_stamped motor feedback s fresh) in
+      let grows = (list_stamps s.head cs (session_after s bs) (list_sound s.head bs s sound) there.1).0 in
+      subst (λ (x : Session). ((place : Place) → stamp_of (held (session_after s bs) place) ≤ stamp_of (held x place)) × (record_stamp (session_after s bs).head.feedback.latest ≤ record_stamp x.head.feedback.latest)) (sym (sessions_joined s bs cs))
+      (grows.at_place, grows.latest);
+  runs = λ motor feedback s₀ fresh before b after w e accepted.
+      let s = session_after s₀ before in
+      let sound = own_sound s₀.head s (list_sound s₀.head before s₀ (fresh_sound motor feedback s₀ fresh)) in
+      let r = begin s b in
+      subst (λ (sees : Sees). OfRun s b (record { told = w; wants = open_want r.session.run }) (turns_after w sees (events r.session after)) (session_after r.session after)) (sees_taken motor feedback s₀ fresh before)
+      (any_start s sound b after w e accepted);
+}

@@ -1,0 +1,9 @@
+pub mod Ended
+pub mod Laws
+pub mod Lists
+pub mod Origin
+pub mod Ran
+pub mod Readings
+pub mod Sessions
+pub mod Started
+pub mod Turning

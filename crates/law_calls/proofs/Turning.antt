@@ -1,0 +1,64 @@
+-- Each turn of a run is an accepted answer of the list, and sees what was taken before it. Assumes nothing.
+use Rattle.std.specs.Prelude.{Ok, Err}
+use mathlib.Core.Path.{◌≡◌, refl, sym, ap, ◌∙◌}
+use mathlib.Core.List.{List, [], ◌∷◌, ◌++◌, nil≢cons, head-eq_of_cons-eq, tail-eq_of_cons-eq}
+use Rattle.run_want.specs.declared.Answer.{Answer}
+use Rattle.session.specs.declared.Session.{Session}
+use Rattle.session_answer.specs.Answer.{answer_run}
+use Rattle.session_step.specs.declared.Told.TheVariants as Told
+use Rattle.session_call.specs.Step.{step}
+use Rattle.session_call.specs.declared.Call.{Call}
+use Rattle.session_call.specs.declared.Returned.{Returned}
+use Rattle.law_calls.specs.Calls.{Answered, open_want, event, events, session_after}
+use Rattle.law_calls.specs.Laws.{IsCall}
+use Rattle.law_calls.specs.Places.{last_taken, Sees, seen_with}
+use Rattle.law_calls.specs.Turns.{Turn, turn, turn_in, turn_of, add_turn, turns}
+
+module _ (t : Turn) (later : List Turn) where
+  abbrev AmongThem : Session → Sees → List Call → Type 0
+  AmongThem s sees cs = (earlier : List Turn) → turns sees (events s cs) ≡ earlier ++ (t ∷ later) → IsCall s sees cs t
+
+  module _ (s : Session) (sees : Sees) (cs : List Call) where
+    -- a call further on
+    further : (c : Call) → IsCall (step s c).session (seen_with sees (event s c)) cs t → IsCall s sees (c ∷ cs) t
+    unfolding session_after events last_taken
+    further c is = record { before = c ∷ is.before; later = is.later; whole = ap (λ (bs : List Call). c ∷ bs) is.whole; returned = is.returned; saw = is.saw }
+
+    -- this one
+    here : (a : Answer) (told : Answered) → (step s (Call.Answer a)).told ≡ Returned.Run told → turn a sees (open_want (step s (Call.Answer a)).session.run) told ≡ t → IsCall s sees (Call.Answer a ∷ cs) t
+    unfolding session_after events last_taken
+    here a told gives is = record {
+      before = [];
+      later = cs;
+      whole = ap (λ (x : Turn). Call.Answer x.answer ∷ cs) is;
+      returned = ap (λ (x : Turn). (step s (Call.Answer x.answer)).told) (sym is) ∙ gives ∙ ap (λ (x : Turn). Returned.Run x.gave.told) is;
+      saw = λ place. ap (λ (x : Turn). x.sees place) (sym is);
+    }
+
+    module _ (rest : (c : Call) → AmongThem (step s c).session (seen_with sees (event s c)) cs) where
+      answered : (a : Answer) (told : Answered) → (step s (Call.Answer a)).told ≡ Returned.Run told → (earlier : List Turn)
+          → turn_in a sees (open_want (step s (Call.Answer a)).session.run) told (turns (seen_with sees (event s (Call.Answer a))) (events (step s (Call.Answer a)).session cs)) ≡ earlier ++ (t ∷ later)
+          → IsCall s sees (Call.Answer a ∷ cs) t
+      unfolding turn_in
+      answered a (Ok (Told.Want want)) gives [] is = here a (Ok (Told.Want want)) gives (head-eq_of_cons-eq is)
+      answered a (Ok (Told.Want want)) gives (u ∷ us) is = further (Call.Answer a) (rest (Call.Answer a) us (tail-eq_of_cons-eq is))
+      answered a (Ok (Told.Result r)) gives [] is = here a (Ok (Told.Result r)) gives (head-eq_of_cons-eq is)
+      answered a (Ok (Told.Result r)) gives (u ∷ us) is = absurd (never us (tail-eq_of_cons-eq is))
+        where
+          never : (us : List Turn) → [] ≡ us ++ (t ∷ later) → ⊥
+          never [] e = nil≢cons e
+          never (x ∷ xs) e = nil≢cons e
+      answered a (Err refusal) gives earlier is = further (Call.Answer a) (rest (Call.Answer a) earlier is)
+
+      by_call : (c : Call) → AmongThem s sees (c ∷ cs)
+      unfolding turns events add_turn turn_of step
+      by_call (Call.Start b) earlier is = further (Call.Start b) (rest (Call.Start b) earlier is)
+      by_call (Call.Answer a) earlier is = answered a (answer_run s a).told refl earlier is
+      by_call (Call.Frame f reading) earlier is = further (Call.Frame f reading) (rest (Call.Frame f reading) earlier is)
+      by_call (Call.Patch status mos rotor) earlier is = further (Call.Patch status mos rotor) (rest (Call.Patch status mos rotor) earlier is)
+
+  pub turn_calls : (cs : List Call) (s : Session) (sees : Sees) → AmongThem s sees cs
+  unfolding turns events
+  turn_calls [] s sees [] is = absurd (nil≢cons is)
+  turn_calls [] s sees (u ∷ us) is = absurd (nil≢cons is)
+  turn_calls (c ∷ cs) s sees earlier is = by_call s sees cs (λ c. turn_calls cs (step s c).session (seen_with sees (event s c))) c earlier is

@@ -1,0 +1,184 @@
+-- What holds of every list of calls on a session. Statements; `laws` in proofs/Laws.antt has their proofs.
+use Rattle.std.specs.Prelude.{ℕ, ◌+◌, ◌≤◌, ◌^◌, ◌≡◌, Bool, List, [], ◌∷◌, ◌++◌, None, Option, Some, Ok, Err}
+use Rattle.motor_core.specs.declared.bus.CanFrame.{CanFrame}
+use Rattle.motor_core.specs.declared.error.Refusal.TheVariants.{RunOpen}
+use Rattle.time.specs.declared.Instant.{Instant}
+use Rattle.registers.specs.declared.RegisterValue.{RegisterValue}
+use Rattle.state_cache.specs.declared.Entry.{Entry}
+use Rattle.state_cache.specs.declared.Entry.TheVariants.{Empty, Held}
+use Rattle.state_cache.specs.declared.Place.{Place}
+use Rattle.state_feedback.specs.declared.FeedbackSnapshot.{FeedbackSnapshot}
+use Rattle.run_want.specs.declared.Answer.{Answer}
+use Rattle.run_machine.specs.Machine.{RunResult}
+use Rattle.run_machine.specs.declared.Machine.{Machine}
+use Rattle.session.specs.declared.Session.{Session}
+use Rattle.session_answer.specs.Answer.{entry_at}
+use Rattle.session_answer.specs.Effects.{Unchanged}
+use Rattle.session_begin.specs.Begin.{machine_of}
+use Rattle.session_begin.specs.declared.Start.{Start}
+use Rattle.session_call.specs.Step.{step}
+use Rattle.session_call.specs.declared.Call.{Call}
+use Rattle.session_call.specs.declared.Returned.{Returned}
+use Rattle.law_calls.specs.Calls.{Fresh, Event, event, events, session_after, Answered, Accepted, IsRefusal}
+use Rattle.law_calls.specs.Places.{said, brings, last_taken, Sees, nothing, seen_after}
+use Rattle.law_calls.specs.Ran.{gives, Ran}
+use Rattle.law_calls.specs.Turns.{Gave, Turn, turns, turns_after, result_of, result, gave_after, gaves, count}
+
+-- ---- what a call leaves alone, by its kind
+
+pub record SameMotor (s after : Session) : Type 0 where
+  pub motor_id : after.head.motor_id ≡ s.head.motor_id
+  pub feedback_id : after.head.feedback_id ≡ s.head.feedback_id
+  pub limits : after.head.limits ≡ s.head.limits
+
+-- of a record its number and stamp, and what the motor measured but for its temperatures
+pub record SameRecord (s after : FeedbackSnapshot) : Type 0 where
+  pub number : after.sequence ≡ s.sequence
+  pub stamp : after.received_at ≡ s.received_at
+  pub motor : after.state.can_id ≡ s.state.can_id
+  pub arbitration_id : after.state.arbitration_id ≡ s.state.arbitration_id
+  pub position : after.state.pos ≡ s.state.pos
+  pub velocity : after.state.vel ≡ s.state.vel
+  pub torque : after.state.torq ≡ s.state.torq
+
+abbrev pub SameLatest : Option FeedbackSnapshot → Option FeedbackSnapshot → Type 0
+SameLatest None None = Unit {0}
+SameLatest None (Some after) = ⊥
+SameLatest (Some s) None = ⊥
+SameLatest (Some s) (Some after) = SameRecord s after
+
+pub record PatchLeaves (s after : Session) : Type 0 where
+  pub motor : SameMotor s after
+  pub latest : SameLatest s.head.feedback.latest after.head.feedback.latest
+  pub sequence : after.head.feedback.sequence ≡ s.head.feedback.sequence
+  pub last : after.head.last ≡ s.head.last
+  pub replies : after.replies ≡ s.replies
+  pub acks : after.acks ≡ s.acks
+  pub run : after.run ≡ s.run
+
+-- a start and an answer leave ids, limits, record and caches, and a start the last reading; a frame ids, limits and the run
+unfoldable pub Leaves : Call → Session → Session → Type 0
+Leaves (Call.Start start) s after = Unchanged s after × (after.head.last ≡ s.head.last)
+Leaves (Call.Answer answer) s after = Unchanged s after
+Leaves (Call.Frame frame reading) s after = SameMotor s after × (after.run ≡ s.run)
+Leaves (Call.Patch status mos rotor) s after = PatchLeaves s after
+
+-- ---- where an entry came from
+
+-- what a session holds of a register's replies or acks
+abbrev pub held : Session → Sees
+held s place = entry_at s.replies s.acks (Some place)
+
+unfoldable pub NoneTaken : Place → List Event → Type 0
+NoneTaken place [] = Unit {0}
+NoneTaken place (v ∷ vs) = (brings place v.call v.returned ≡ None) × NoneTaken place vs
+
+-- a frame that was taken says this value at this place, with this reading, and none of that place was taken after it
+pub record Taken (place : Place) (value : RegisterValue) (stamp : Instant) (vs : List Event) : Type 0 where
+  pub before : List Event
+  pub event : Event
+  pub later : List Event
+  pub frame : CanFrame
+  pub whole : vs ≡ before ++ (event ∷ later)
+  pub call : event.call ≡ Call.Frame frame stamp
+  pub taken : event.returned ≡ Returned.Frame (Ok tt)
+  pub says : said frame ≡ Some (place, value)
+  pub is_last : NoneTaken place later
+
+-- the call that a turn is, among the calls from the session `s` on, and that it sees what was taken before it
+pub record IsCall (s : Session) (sees : Sees) (cs : List Call) (t : Turn) : Type 0 where
+  pub before : List Call
+  pub later : List Call
+  pub whole : cs ≡ before ++ (Call.Answer t.answer ∷ later)
+  pub returned : (step (session_after s before) (Call.Answer t.answer)).told ≡ Returned.Run t.gave.told
+  pub saw : (place : Place) → t.sees place ≡ last_taken place (sees place) (events s before)
+
+-- ---- readings
+
+-- a reading that came with a call, if the call was accepted
+unfoldable pub accepted_by : Returned → Instant → Option Instant
+accepted_by (Returned.Run (Ok told)) t = Some t
+accepted_by (Returned.Run (Err refusal)) t = None
+accepted_by (Returned.Frame (Ok taken)) t = Some t
+accepted_by (Returned.Frame (Err refusal)) t = None
+accepted_by (Returned.Patch done) t = None
+
+unfoldable pub accepted_reading : Call → Returned → Option Instant
+accepted_reading (Call.Start start) returned = None
+accepted_reading (Call.Answer (Answer.Reading t)) returned = accepted_by returned t
+accepted_reading (Call.Answer (Answer.Send result)) returned = None
+accepted_reading (Call.Answer Answer.Slept) returned = None
+accepted_reading (Call.Frame frame t) returned = accepted_by returned t
+accepted_reading (Call.Patch status mos rotor) returned = None
+
+-- none is below the last one before it, none above 2^62
+abbrev pub Next : Instant → Option Instant → Type 0
+Next last None = Unit {0}
+Next last (Some t) = (last.0 ≤ t.0) × (t.0 ≤ 2 ^ 62)
+
+abbrev pub last_with : Instant → Option Instant → Instant
+last_with last None = last
+last_with last (Some t) = t
+
+unfoldable pub Rising : Instant → List Event → Type 0
+Rising last [] = Unit {0}
+Rising last (v ∷ vs) = Next last (accepted_reading v.call v.returned) × Rising (last_with last (accepted_reading v.call v.returned)) vs
+
+unfoldable pub last_reading : Instant → List Event → Instant
+last_reading last [] = last
+last_reading last (v ∷ vs) = last_reading (last_with last (accepted_reading v.call v.returned)) vs
+
+-- an entry's stamp, and the latest record's; 0 where there is none
+abbrev pub stamp_of : Entry → ℕ
+stamp_of Empty = 0
+stamp_of (Held value stamp) = stamp.0
+
+abbrev pub record_stamp : Option FeedbackSnapshot → ℕ
+record_stamp None = 0
+record_stamp (Some s) = s.received_at.0
+
+-- ---- a run, by its accepted start, its turns, and the session at the end of the list
+
+pub record OfRun (s : Session) (start : Start) (first : Gave) (ts : List Turn) (end : Session) : Type 0 where
+  pub machine : Machine
+  pub opened : machine_of start ≡ Ok machine
+  pub wants : first ≡ gives s.head machine
+  pub steps : Ran s.head end machine s.head.last ts
+  -- while it has no result, some answer is accepted and every start refused with 8; with it the run is closed
+  pub answerable : result first ts ≡ None → (a : Answer) × (w : Answered) × ((step end (Call.Answer a)).told ≡ Returned.Run w) × Accepted w
+  pub alone : result first ts ≡ None → (other : Start) → (step end (Call.Start other)).told ≡ Returned.Run (Err RunOpen)
+  pub closes : (r : RunResult) → result first ts ≡ Some r → (gave_after first ts).wants ≡ None
+
+pub record Laws : Type 0 where
+  -- a refused call leaves the session that it got, and every call what is not its own
+  pub refusals : (s : Session) (c : Call) → IsRefusal (step s c).told → (step s c).session ≡ s
+  pub leaves : (s : Session) (c : Call) → Leaves c s (step s c).session
+  -- one list after another
+  pub sessions_joined : (s : Session) (bs cs : List Call) → session_after s (bs ++ cs) ≡ session_after (session_after s bs) cs
+  pub events_joined : (s : Session) (bs cs : List Call) → events s (bs ++ cs) ≡ events s bs ++ events (session_after s bs) cs
+  pub places_joined : (place : Place) (e : Entry) (us vs : List Event) → last_taken place e (us ++ vs) ≡ last_taken place (last_taken place e us) vs
+  pub turns_joined : (sees : Sees) (us vs : List Event) → result_of (turns sees us) ≡ None → turns sees (us ++ vs) ≡ turns sees us ++ turns (seen_after sees us) vs
+  pub turns_over : (sees : Sees) (us vs : List Event) (r : RunResult) → result_of (turns sees us) ≡ Some r → turns sees (us ++ vs) ≡ turns sees us
+  pub counts_joined : (f : Gave → Bool) (ts us : List Turn) → count f (gaves (ts ++ us)) ≡ count f (gaves ts) + count f (gaves us)
+  -- what a session holds is what was taken last, from a frame that is in the list
+  pub holds_last : (motor feedback : ℕ) (s : Session) → Fresh motor feedback s → (cs : List Call) (place : Place) → held (session_after s cs) place ≡ last_taken place Empty (events s cs)
+  pub origin : (cs : List Event) (place : Place) (value : RegisterValue) (stamp : Instant) → last_taken place Empty cs ≡ Held value stamp → Taken place value stamp cs
+  -- a turn is a call in the list, and sees what was taken before it
+  pub turn_calls : (s : Session) (sees : Sees) (cs : List Call) (earlier : List Turn) (t : Turn) (later : List Turn) → turns sees (events s cs) ≡ earlier ++ (t ∷ later) → IsCall s sees cs t
+  -- accepted readings never fall, the last of them is the session's, and stamps are no later and never fall either
+  pub readings : (s : Session) (cs : List Call) → Rising s.head.last (events s cs) × ((session_after s cs).head.last ≡ last_reading s.head.last (events s cs))
+  pub bounded : (motor feedback : ℕ) (s : Session) → Fresh motor feedback s → (cs : List Call) →
+      (let t = (session_after s cs).head.last in
+      (t.0 ≤ 2 ^ 62) × ((place : Place) → stamp_of (held (session_after s cs) place) ≤ t.0) × (record_stamp (session_after s cs).head.feedback.latest ≤ t.0))
+  pub stamps : (motor feedback : ℕ) (s : Session) → Fresh motor feedback s → (bs cs : List Call) →
+      ((place : Place) → stamp_of (held (session_after s bs) place) ≤ stamp_of (held (session_after s (bs ++ cs)) place))
+      × (record_stamp (session_after s bs).head.feedback.latest ≤ record_stamp (session_after s (bs ++ cs)).head.feedback.latest)
+  -- every run steps by its turns
+  pub runs : (motor feedback : ℕ) (s₀ : Session) → Fresh motor feedback s₀ → (before : List Call) (start : Start) (after : List Call) →
+      (let s = session_after s₀ before in
+      let began = event s (Call.Start start) in
+      let s' = (step s (Call.Start start)).session in
+      (w : Answered) → began.returned ≡ Returned.Run w → Accepted w →
+      OfRun s start (record { told = w; wants = began.wants })
+      (turns_after w (seen_after nothing (events s₀ before)) (events s' after))
+      (session_after s' after))
