@@ -68,9 +68,9 @@ module _ (h : Head) (end : Session) where
       go a (Err failure) = tt
 
   -- and no start is
-  pub alone : StandsOpen → (other : Start) → (step end (Call.Start other)).told ≡ Returned.Run (Err RunOpen)
+  pub refuses : StandsOpen → (other : Start) → (step end (Call.Start other)).told ≡ Returned.Run (Err RunOpen)
   unfolding step
-  alone (m, o, last) other = ap (λ (r : AfterCall). Returned.Run r.told) (start_waits end other m o)
+  refuses (m, o, last) other = ap (λ (r : AfterCall). Returned.Run r.told) (start_waits end other m o)
 
   -- one that has ended wants nothing more
   pub closed_after : (ts : List Turn) (m : Machine) (l : Instant) (g : Gave) (r : RunResult) → Ran h end m l ts → result_of ts ≡ Some r → (gave_after g ts).wants ≡ None

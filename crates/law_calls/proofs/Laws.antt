@@ -33,7 +33,7 @@ use Prim.Native.Nat.{◌≤◌}
 use Rattle.law_calls.specs.Laws.{held, stamp_of, record_stamp, Leaves, PatchLeaves, SameLatest, OfRun, Laws}
 use Rattle.law_calls.specs.Places.{Sees, nothing, seen_after, last_taken}
 use Rattle.law_calls.specs.Turns.{turns, turns_after, result_in}
-use Rattle.law_calls.proofs.Ended.{still_open, answered, alone, closed_after}
+use Rattle.law_calls.proofs.Ended.{still_open, answered, refuses, closed_after}
 use Rattle.law_calls.proofs.Lists.{sessions_joined, events_joined, places_joined, turns_joined, turns_over, counts_joined}
 use Rattle.law_calls.proofs.Origin.{origin}
 use Rattle.law_calls.proofs.Ran.{ran}
@@ -127,9 +127,11 @@ module _ (s : Session) (sound : Sound s.head s) (b : Start) (after : List Call) 
           opened = opens;
           wants = refl;
           steps = steps;
-          answerable = λ e. answered s.head end (still_open s.head end ts m s.head.last steps e);
-          alone = λ e. alone s.head end (still_open s.head end ts m s.head.last steps e);
-          closes = λ r e. closed_after s.head end ts m s.head.last _ r steps e;
+          alone = record {
+            answerable = λ e. answered s.head end (still_open s.head end ts m s.head.last steps e);
+            refuses = λ e. refuses s.head end (still_open s.head end ts m s.head.last steps e);
+            closes = λ r e. closed_after s.head end ts m s.head.last _ r steps e;
+          };
         }
 
     accepted_start : Starts began

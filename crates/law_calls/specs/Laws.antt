@@ -139,15 +139,18 @@ record_stamp (Some s) = s.received_at.0
 
 -- ---- a run, by its accepted start, its turns, and the session at the end of the list
 
+-- While it has no result, some answer is accepted and every start is refused with 8, so that its turns are its own; with it the run is closed.
+pub record Alone (first : Gave) (ts : List Turn) (end : Session) : Type 0 where
+  pub answerable : result first ts ≡ None → (a : Answer) × (w : Answered) × ((step end (Call.Answer a)).told ≡ Returned.Run w) × Accepted w
+  pub refuses : result first ts ≡ None → (other : Start) → (step end (Call.Start other)).told ≡ Returned.Run (Err RunOpen)
+  pub closes : (r : RunResult) → result first ts ≡ Some r → (gave_after first ts).wants ≡ None
+
 pub record OfRun (s : Session) (start : Start) (first : Gave) (ts : List Turn) (end : Session) : Type 0 where
   pub machine : Machine
   pub opened : machine_of start ≡ Ok machine
   pub wants : first ≡ gives s.head machine
   pub steps : Ran s.head end machine s.head.last ts
-  -- while it has no result, some answer is accepted and every start refused with 8; with it the run is closed
-  pub answerable : result first ts ≡ None → (a : Answer) × (w : Answered) × ((step end (Call.Answer a)).told ≡ Returned.Run w) × Accepted w
-  pub alone : result first ts ≡ None → (other : Start) → (step end (Call.Start other)).told ≡ Returned.Run (Err RunOpen)
-  pub closes : (r : RunResult) → result first ts ≡ Some r → (gave_after first ts).wants ≡ None
+  pub alone : Alone first ts end
 
 pub record Laws : Type 0 where
   -- a refused call leaves the session that it got, and every call what is not its own

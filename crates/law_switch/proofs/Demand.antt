@@ -1,46 +1,49 @@
 -- The claim holds. Assumes nothing.
-use Rattle.std.specs.Prelude.{None, Option, Some, Ok, Err}
-use Prim.Native.Nat.{ℕ, ◌≤◌}
+use Rattle.std.specs.Prelude.{None, Option, Some}
+use Prim.Native.Nat.{ℕ, ◌≤◌, ◌<◌}
 use mathlib.Core.Path.{◌≡◌, refl, sym, ap, ◌∙◌, subst}
-use mathlib.Core.Bool.{Bool}
+use mathlib.Core.Bool.{Bool, true, false}
 use mathlib.Core.List.{List, ◌∷◌}
 use native.Mathlib.Omega.{arith}
+use borrow.Author.Tests.{leb-true, leb-false}
+use lib.Dec.{leb}
+use lib.ListN.{length}
 use Rattle.time.specs.declared.Instant.{Instant}
 use Rattle.time.specs.declared.Duration.{Duration}
-use Rattle.state_cache.specs.declared.Entry.{Entry}
-use Rattle.state_cache.specs.declared.Entry.TheVariants.{Empty}
 use Rattle.protocol_hold.specs.Mode.{mode_number}
 use Rattle.protocol_hold.specs.declared.ControlMode.{ControlMode}
 use Rattle.run_want.specs.declared.Want.{Want}
 use Rattle.run_want.specs.declared.message.Message.{Message}
-use Rattle.run_want.specs.declared.Want.TheVariants.{Clock}
 use Rattle.switch_stage.specs.Stage.{switch_want}
 use Rattle.switch_stage.specs.declared.Switch.TheVariants.{Starting}
 use Rattle.run_machine.specs.declared.Machine.{Machine}
 use Rattle.run_machine.specs.Machine.{RunResult}
 use Rattle.session.specs.declared.Head.{Head}
 use Rattle.session.specs.declared.Session.{Session}
-use Rattle.session_step.specs.declared.Told.TheVariants as Told
-use Rattle.session_answer.specs.Answer.{AfterCall}
-use Rattle.run_arguments.specs.Arguments.{mode_start}
-use Rattle.session_begin.specs.Begin.{with_opened, begin, ensure_control_mode}
-use Rattle.session_begin.proofs.Effects.{start_cases}
+use Rattle.session_begin.specs.declared.Start.TheVariants.{EnsureControlMode}
+use Rattle.session_call.specs.Step.{step}
+use Rattle.session_call.specs.declared.Call.TheVariants as Call
 use Rattle.law_runs.specs.Clock.{unheard, Moved, Moving}
 use Rattle.law_runs.specs.Trace.{counted}
 use Rattle.law_runs.specs.Trace as Trace
 use Rattle.law_runs.specs.Systems.{running}
 use Rattle.law_runs.proofs.Runs.{bounds}
-use Rattle.motor_core.specs.declared.error.Refusal.{Refusal}
-use Rattle.law_switch.specs.Claim.{Answered, Call, Returned, told, start_run, step, open_want, patched, events, session_after, last_reply, Gave, Turn, turns, turns_after, result_in, result_of, gaves, count, a_send, a_sleep, wants_send, wants_sleep, any, reads_mode, writes_mode, mode_read, mode_write, AllMove, Accepted, Bounded, Claim, a_want, send_to, is_sleep}
-use Rattle.law_switch.proofs.Ended.{answered, closed_after}
-use Rattle.law_switch.proofs.Ran.{machine, gave_want, Ran, ran}
-use Rattle.law_switch.proofs.Sessions.{mode_entry, Sound, list_sound, list_entry, refused_leaves}
-use Rattle.law_switch.proofs.Started.{fresh_sound, fresh_entry, Switching, switching}
+use Rattle.law_calls.specs.Calls.{event, events, session_after}
+use Rattle.law_calls.specs.Laws.{Alone}
+use Rattle.law_calls.specs.Places.{nothing, seen_after}
+use Rattle.law_calls.specs.Ran.{gives}
+use Rattle.law_calls.specs.Ran as Run
+use Rattle.law_calls.specs.Turns.{Gave, Turn, turns_after, result_in, result_of, gaves, count, a_want, send_to, is_sleep, a_send, a_sleep, wants_send, wants_sleep, any, AllMove}
+use Rattle.law_calls.proofs.Laws.{laws}
+use Rattle.law_calls.proofs.Lists.{none≢some}
+use Rattle.law_calls.proofs.Sessions.{list_sound, refused_leaves}
+use Rattle.law_calls.proofs.Started.{fresh_motor, fresh_sound}
+use Rattle.law_switch.specs.Claim.{reads_mode, writes_mode, mode_read, mode_write, Bounded, EachSwitch, Claim}
+use Rattle.law_switch.proofs.Ran.{machine, gave_want, Ran, of_run}
+use Rattle.law_switch.proofs.Started.{switching}
 use Rattle.law_switch.proofs.Success.{done_found, found_done}
 use Rattle.law_switch.proofs.Told as Count
-use Rattle.law_switch.proofs.Traced.{none≢some, Traced, traced}
-use Rattle.session.specs.Session.{with_run}
-use Rattle.run_want.specs.declared.Want.TheVariants as Wanted
+use Rattle.law_switch.proofs.Traced.{Traced, traced}
 
 -- ---- of one switch, by how it ran
 
@@ -102,9 +105,19 @@ module _ (h : Head) (mode : ControlMode) (timeout : Duration) (ts : List Turn) (
   some_of r None = r
   some_of r (Some x) = x
 
-  pub bounded : Bounded motor (mode_number mode) first ts z
+  -- one that has had 947 answers has a result
+  not_over : AllMove None first.told ts → result_of ts ≡ None → length ts < 947
+  not_over m e = go (leb 947 (length ts)) refl
+    where
+      go : (b : Bool) → leb 947 (length ts) ≡ b → length ts < 947
+      go false many = leb-false 947 (length ts) many
+      go true many =
+          let over = (bounds.switch mode timeout).ends_after trace.gs (moving m) (subst (λ (k : ℕ). 947 ≤ k) (sym trace.as_many) (leb-true 947 (length ts) many)) in
+          absurd (none≢some (sym e ∙ (trace.ended over).1))
+
+  pub bounded : Alone first ts z → Bounded motor (mode_number mode) first ts z
   unfolding some_of result_in
-  bounded =
+  bounded alone =
       let within = bounds.switch mode timeout in
       record {
         reads = omega (arith, reads_as, within.sends_at_most Count.mode_reads trace.gs);
@@ -115,9 +128,10 @@ module _ (h : Head) (mode : ControlMode) (timeout : Duration) (ts : List Turn) (
         sends_wanted = sends_as ∙ sym sends_wanted;
         sleeps_wanted = sleeps_as ∙ sym sleeps_wanted;
         sleeps = λ m. omega (arith, sleeps_as, within.sleeps_at_most trace.gs (moving m));
-        ends = λ m n. trace.ended (within.ends_after trace.gs (moving m) (subst (λ (k : ℕ). 947 ≤ k) (sym trace.as_many) n));
-        answerable = answered h mode timeout z ts Starting l how;
-        closes = λ r e. closed_after h mode timeout z ts Starting l first r how e;
+        ends = not_over;
+        answerable = alone.answerable;
+        alone = alone.refuses;
+        closes = alone.closes;
         success = λ r e. (
           λ done. done_found h mode timeout z ts l how (subst (λ (x : RunResult). result_of ts ≡ Some x) done e),
           λ f. ap (some_of r) (sym e ∙ found_done h mode timeout z ts Starting l None how (λ o is. absurd (none≢some is)) f),
@@ -126,47 +140,27 @@ module _ (h : Head) (mode : ControlMode) (timeout : Duration) (ts : List Turn) (
 
 -- ---- of each switch in each list
 
-told_in : Answered → Returned → Answered
-told_in t (told x) = x
-told_in t (Returned.frame outcome) = t
-told_in t (patched done) = t
-
-module _ (h : Head) (s : Session) (sound : Sound h s) (n : ℕ) (timeout : Duration) (after : List Call) where
-  -- of what a start came to
-  abbrev Starts : AfterCall → Type 0
-  Starts r =
-      (w : Answered) → told r.told ≡ told w → Accepted w
-      → Bounded h.motor_id n (record { told = w; wants = open_want r.session.run }) (turns_after w (mode_entry s) (events r.session after)) (session_after r.session after)
-
-  refused_start : (k : Refusal) → Starts (record { session = s; told = Err k })
-  unfolding Accepted told_in
-  refused_start k w e accepted = absurd (subst Accepted (sym (ap (told_in w) e)) accepted)
-
-  accepted_start : (m : Machine) → Switching n timeout m → Starts (with_opened s (Ok m))
-  unfolding told_in turns_after
-  accepted_start m x =
-      subst (λ (m : Machine). Starts (with_opened s (Ok m))) x.opens
-      (λ w e accepted.
-      let s' : Session = with_run s (Some (machine h x.mode timeout Starting)) in
-      let sound' : Sound h s' = record { motor_id = sound.motor_id; limits = sound.limits; replies = sound.replies; last = sound.last } in
-      let ts = turns (mode_entry s) (events s' after) in
-      let z = session_after s' after in
-      subst (λ (w : Answered). Bounded h.motor_id n (record { told = w; wants = Some Clock }) (turns_after w (mode_entry s) (events s' after)) z) (ap (told_in (Ok (Told.Want Wanted.Clock))) e)
-      (subst (λ (n : ℕ). Bounded h.motor_id n (record { told = Ok (Told.Want Wanted.Clock); wants = Some Clock }) ts z) x.number
-      (bounded h x.mode timeout ts z s.head.last (ran h x.mode timeout after s' Starting refl sound'))))
-
-  any_start : Starts (begin s (mode_start n timeout))
-  any_start = start_cases s (mode_start n timeout) Starts refused_start (λ m c e. accepted_start m (switching n timeout m e))
+-- what holds by how a switch ran holds of each
+pub each_switch : (P : ℕ → ℕ → Gave → List Turn → Session → Type 0)
+    → ((h : Head) (mode : ControlMode) (timeout : Duration) (ts : List Turn) (end : Session) (l : Instant) → Ran h mode timeout end Starting l ts → Alone (gave_want h mode timeout Starting) ts end → P h.motor_id (mode_number mode) (gave_want h mode timeout Starting) ts end)
+    → EachSwitch P
+each_switch P holds motor feedback s₀ fresh before n timeout after w e accepted =
+    let s = session_after s₀ before in
+    let run = laws.runs motor feedback s₀ fresh before (EnsureControlMode n timeout) after w e accepted in
+    let x = switching n timeout run.machine run.opened in
+    let end = session_after (step s (Call.Start (EnsureControlMode n timeout))).session after in
+    let ts = turns_after w (seen_after nothing (events s₀ before)) (events (step s (Call.Start (EnsureControlMode n timeout))).session after) in
+    let began : Gave = record { told = w; wants = (event s (Call.Start (EnsureControlMode n timeout))).wants } in
+    let first : began ≡ gave_want s.head x.mode timeout Starting = run.wants ∙ ap (gives s.head) (sym x.opens) in
+    let id : s.head.motor_id ≡ motor = (list_sound s₀.head before s₀ (fresh_sound motor feedback s₀ fresh)).motor_id ∙ fresh_motor motor feedback s₀ fresh in
+    let steps = subst (λ (m : Machine). Run.Ran s.head end m s.head.last ts) (sym x.opens) run.steps in
+    subst (λ (k : ℕ). P k n began ts end) id
+    (subst (λ (k : ℕ). P s.head.motor_id k began ts end) x.number
+    (subst (λ (g : Gave). P s.head.motor_id (mode_number x.mode) g ts end) (sym first)
+    (holds s.head x.mode timeout ts end s.head.last (of_run s.head x.mode timeout end ts Starting s.head.last steps) (subst (λ (g : Gave). Alone g ts end) first run.alone))))
 
 pub claim : Claim
-unfolding step start_run ensure_control_mode
 claim = record {
   refusals = refused_leaves;
-  switches = λ s₀ fresh before n timeout after w e accepted.
-      let s = session_after s₀ before in
-      let sound = list_sound s₀.head before s₀ (fresh_sound s₀ fresh) in
-      let seen : mode_entry s ≡ last_reply Empty (events s₀ before) = list_entry s₀.head before s₀ (fresh_sound s₀ fresh) ∙ ap (λ (x : Entry). last_reply x (events s₀ before)) (fresh_entry s₀ fresh) in
-      let r = begin s (mode_start n timeout) in
-      subst (λ (x : Entry). Bounded s₀.head.motor_id n (record { told = w; wants = open_want r.session.run }) (turns_after w x (events r.session after)) (session_after r.session after)) seen
-      (any_start s₀.head s sound n timeout after w e accepted);
+  switches = each_switch Bounded (λ h mode timeout ts end l how. bounded h mode timeout ts end l how);
 }

@@ -1,10 +1,9 @@
-pub mod Demand
-pub mod Ended
 pub mod ModeReads
 pub mod Moving
 pub mod Ran
-pub mod Sessions
 pub mod Started
 pub mod Success
 pub mod Told
 pub mod Traced
+pub mod Demand
+pub mod Written

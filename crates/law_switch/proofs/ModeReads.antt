@@ -53,7 +53,8 @@ use Rattle.switch_stage.specs.declared.Switch.{Switch}
 use Rattle.switch_stage.specs.declared.Switch.TheVariants.{Starting, Begun}
 use Rattle.law_runs.specs.Ends.{wait_opening, HoldsFresh, Look, Since, GetSaw}
 use Rattle.law_runs.proofs.Ends.{get_saw}
-use Rattle.law_switch.specs.Claim.{wants_send, reads_mode}
+use Rattle.law_calls.specs.Turns.{wants_send}
+use Rattle.law_switch.specs.Claim.{reads_mode}
 
 -- the read of register 10 that a phase is in
 abbrev pub mode_ask : Switch → Option Ask

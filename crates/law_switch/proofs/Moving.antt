@@ -16,7 +16,7 @@ use Rattle.session.specs.declared.Head.{Head}
 use Rattle.session_step.specs.Parts.{caller_want, answer_accepted, with_reading}
 use Rattle.session_step.specs.declared.Told.TheVariants as Told
 use Rattle.law_runs.specs.Clock.{known_after, fine, Clock as Known, Moved, Later, moving}
-use Rattle.law_switch.specs.Claim.{reading_or, Moves}
+use Rattle.law_calls.specs.Turns.{reading_or, Moves}
 
 -- the run's last reading is no later than the session's
 abbrev pub Behind : Option Instant → Instant → Type 0

@@ -1,76 +1,23 @@
--- A fresh session, and what an accepted start of a switch opens. Assumes nothing.
+-- What an accepted start of a switch opens. Assumes nothing.
 use Rattle.std.specs.Prelude.{Result, Ok, Err}
 use Rattle.motor_core.proofs.Turned.{clash}
 use Rattle.motor_core.specs.AndThen.{and_then}
 use Rattle.motor_core.specs.declared.error.Refusal.{Refusal}
-use Rattle.motor_core.specs.declared.error.Refusal.TheVariants.{MotorId, Mode, Timeout}
-use Rattle.motor_core.specs.declared.model.Maxima.{Maxima}
+use Rattle.motor_core.specs.declared.error.Refusal.TheVariants.{Mode, Timeout}
 use Prim.Native.Nat.{ℕ}
-use mathlib.Core.Path.{◌≡◌, refl, sym, ap, ◌∙◌, subst}
+use mathlib.Core.Path.{◌≡◌, refl, sym, ap, ◌∙◌}
 use mathlib.Core.Bool.{Bool, true, false, cond}
-use native.Mathlib.Omega.{arith}
 use borrow.Author.Tests.{eqb-true}
 use lib.Dec.{eqb}
-use Rattle.motor_core.specs.Bus.{motor_id_accepted}
-use Rattle.motor_core.specs.Model.{limits_of}
 use Rattle.time.specs.Time.{timeout_accepted}
-use Rattle.motor_core.specs.declared.model.PvTLimits.{PvTLimits}
 use Rattle.time.specs.declared.Duration.{Duration}
-use Rattle.model_list.specs.Models.{limits_by_name}
-use Rattle.state_cache.specs.declared.Entry.TheVariants.{Empty}
 use Rattle.protocol_hold.specs.Mode.{control_mode, mode_number}
 use Rattle.protocol_hold.specs.declared.ControlMode.{ControlMode}
 use Rattle.protocol_hold.specs.declared.ControlMode.TheVariants.{Mit, PosVel, Vel, ForcePos}
 use Rattle.switch_stage.specs.declared.Switch.TheVariants.{Starting}
 use Rattle.run_machine.specs.declared.Machine.{Machine}
 use Rattle.run_machine.specs.declared.Machine.TheVariants.{EnsureControlMode}
-use Rattle.session.specs.Session.{fresh}
-use Rattle.session.specs.Start.{with_limits, from_limits, from_model}
-use Rattle.session.specs.declared.Session.{Session}
-use Rattle.session.proofs.Fresh.{fresh_reply, fresh_replies, fresh_last}
 use Rattle.run_arguments.specs.Arguments.{checked_timeout, mode_start}
-use Rattle.law_switch.specs.Claim.{Fresh, of_limits, of_model}
-use Rattle.law_switch.proofs.Sessions.{mode_entry, Sound}
-
--- ---- a fresh session
-
-abbrev IsFresh : Session → Type 0
-IsFresh s = (motor_id : ℕ) × (feedback_id : ℕ) × (limits : PvTLimits) × (fresh motor_id feedback_id limits ≡ s)
-
-module _ (s : Session) where
-  the_same : (x : Session) → ◌≡◌ {A = Result Session Refusal} (Ok x) (Ok s) → x ≡ s
-  the_same x e = cc
-
-  limits_fresh : (check : Result PvTLimits Refusal) (motor_id feedback_id : ℕ) → and_then check (with_limits motor_id feedback_id) ≡ Ok s → IsFresh s
-  limits_fresh (Err n) motor_id feedback_id e = absurd (clash (cc))
-  limits_fresh (Ok limits) motor_id feedback_id e = go (motor_id_accepted motor_id) e
-    where
-      go : (b : Bool) → ◌≡◌ {A = Result Session Refusal} (cond b (Ok (fresh motor_id feedback_id limits)) (Err MotorId)) (Ok s) → IsFresh s
-      go true e = (motor_id, feedback_id, limits, the_same (fresh motor_id feedback_id limits) e)
-      go false e = absurd (clash (cc))
-
-  name_fresh : (found : Result Maxima Refusal) (motor_id feedback_id : ℕ) → and_then found (from_limits motor_id feedback_id) ≡ Ok s → IsFresh s
-  unfolding from_limits
-  name_fresh (Err n) motor_id feedback_id e = absurd (clash (cc))
-  name_fresh (Ok m) motor_id feedback_id e = limits_fresh (limits_of m) motor_id feedback_id e
-
-  is_fresh : Fresh s → IsFresh s
-  unfolding from_limits from_model
-  is_fresh (of_limits motor_id feedback_id m e) = limits_fresh (limits_of m) motor_id feedback_id e
-  is_fresh (of_model motor_id feedback_id models name e) = name_fresh (limits_by_name models name) motor_id feedback_id e
-
-  pub fresh_sound : Fresh s → Sound s.head s
-  fresh_sound f =
-      let (motor_id, feedback_id, limits, e) = is_fresh f in
-      subst (λ (x : Session). Sound x.head x) e
-      record { motor_id = refl; limits = refl; replies = fresh_replies motor_id feedback_id limits; last = omega (arith, fresh_last motor_id feedback_id limits) }
-
-  pub fresh_entry : Fresh s → mode_entry s ≡ Empty
-  fresh_entry f =
-      let (motor_id, feedback_id, limits, e) = is_fresh f in
-      ap mode_entry (sym e) ∙ fresh_reply motor_id feedback_id limits 10
-
--- ---- an accepted start
 
 -- the mode that has a number
 numbered : (n : ℕ) (mode : ControlMode) → control_mode n ≡ Ok mode → mode_number mode ≡ n

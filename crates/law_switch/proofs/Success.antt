@@ -40,11 +40,13 @@ use Rattle.law_runs.specs.Ends.{wait_opening, Look, Since}
 use Rattle.run_want.specs.Step.{Stepped}
 use Rattle.std.specs.declared.ops.ControlFlow.TheVariants.{Continue, Break}
 use Rattle.motor_core.proofs.Turned.{clash}
-use Rattle.law_switch.specs.Claim.{Gave, Turn, gaves, once, count, a_send, wants_send, reads_mode, mode_read, result_of, reading_or, gave_after, reading_after, Looks, Found, a_want, send_to}
+use Rattle.law_calls.specs.Turns.{Gave, Turn, gaves, once, count, a_send, wants_send, result_of, reading_or, gave_after, reading_after, a_want, send_to}
+use Rattle.law_switch.specs.Claim.{reads_mode, mode_read, Looks, Found}
 use Rattle.law_switch.proofs.ModeReads.{mode_ask, in_read, ask_of, Saw, Entered, Law, switch_law, EndsDone, ends_done, Quiet, WantsSend, StaysQuiet, sending_quiet, stays_quiet, quiet_sleep}
-use Rattle.law_switch.proofs.Ran.{gave_want, gave_result, Took, Onward, onward_cases, Ran}
+use Rattle.law_switch.proofs.Ran.{gave_want, gave_result, seen, sees_mode, Took, Onward, onward_cases, Ran}
 use Rattle.law_switch.proofs.Told.{reads_alike}
-use Rattle.law_switch.proofs.Traced.{none≢some, want_on, end_of}
+use Rattle.law_calls.proofs.Lists.{none≢some}
+use Rattle.law_switch.proofs.Traced.{want_on, end_of}
 
 -- an answer of the kind that is wanted
 pub clock_read : (r : Option Instant) (a : Answer) → fits Clock a ≡ true → reading_or a r ≡ Some (reading_of a)
@@ -168,7 +170,7 @@ module _ (h : Head) (mode : ControlMode) (timeout : Duration) where
     silent : count sending (gaves waited) ≡ 0
     last : count (mode_read motor) (gaves (waited ++ (look ∷ later))) ≡ 0
     slept : look.answer ≡ Answer.Slept
-    finds : look.sees ≡ Held (UInt32 number) stamp
+    finds : look.sees (Reply 10) ≡ Held (UInt32 number) stamp
     fresh : o.0 ≤ stamp.0
 
   abbrev Sought : Option Instant → Switch → List Turn → Type 0
@@ -194,10 +196,10 @@ module _ (h : Head) (mode : ControlMode) (timeout : Duration) where
 
   module _ (p : Switch) (l : Instant) (r : Option Instant) (opened : Opened r p) (t : Turn) (ts : List Turn) (k : Took h mode timeout p l t) where
     abbrev next : Stepped Switch (Unit {0})
-    next = switch_step mode timeout k.entry p t.answer
+    next = switch_step mode timeout (seen p t) p t.answer
 
-    law : (x : Stepped Switch (Unit {0})) → next ≡ x → Law mode timeout k.entry t.answer (mode_ask p) x
-    law x e = subst (λ (x : Stepped Switch (Unit {0})). Law mode timeout k.entry t.answer (mode_ask p) x) e (switch_law mode timeout k.entry t.answer p)
+    law : (x : Stepped Switch (Unit {0})) → next ≡ x → Law mode timeout (seen p t) t.answer (mode_ask p) x
+    law x e = subst (λ (x : Stepped Switch (Unit {0})). Law mode timeout (seen p t) t.answer (mode_ask p) x) e (switch_law mode timeout (seen p t) t.answer p)
 
     -- what comes after, in the wait
     seek_waited : (q : Switch) (w : Wait) → t.gave ≡ want_of q → mode_ask q ≡ Some (Waiting w) → InWait (wait_opening w) ts → (ask : Ask) → mode_ask p ≡ Some ask → Since ask t.answer (wait_opening w) → Sought r p (t ∷ ts)
@@ -244,11 +246,11 @@ module _ (h : Head) (mode : ControlMode) (timeout : Duration) where
     seek_goes : (q : Switch) → next ≡ Ok (Continue q) → t.gave ≡ want_of q → Sought (reading_or t.answer r) q ts → Sought r p (t ∷ ts)
     seek_goes q e gave (inl f) = inl (extend r (want_of p) t ts (subst (λ (g : Gave). Succeeds (reading_or t.answer r) g ts) (sym gave) f))
     seek_goes q e gave (inr (w, is, x)) =
-        let entered : Entered mode timeout k.entry t.answer (mode_ask p) (Some (Waiting w)) = subst (λ (o : Option Ask). Entered mode timeout k.entry t.answer (mode_ask p) o) is (law (Ok (Continue q)) e) in
+        let entered : Entered mode timeout (seen p t) t.answer (mode_ask p) (Some (Waiting w)) = subst (λ (o : Option Ask). Entered mode timeout (seen p t) t.answer (mode_ask p) o) is (law (Ok (Continue q)) e) in
         seek_waited q w gave is x entered.0 entered.1 entered.2
 
     -- where it ends
-    seek_look : (ask : Ask) (o stamp : Instant) → t.gave ≡ gave_result h mode timeout (Ok Outcome.Done) → ts ≡ [] → mode_ask p ≡ Some ask → Look ask t.answer o → k.entry ≡ Held (mode_value mode) stamp → o.0 ≤ stamp.0 → Sought r p (t ∷ ts)
+    seek_look : (ask : Ask) (o stamp : Instant) → t.gave ≡ gave_result h mode timeout (Ok Outcome.Done) → ts ≡ [] → mode_ask p ≡ Some ask → Look ask t.answer o → seen p t ≡ Held (mode_value mode) stamp → o.0 ≤ stamp.0 → Sought r p (t ∷ ts)
     unfolding gave_after reading_after gaves count Looks a_want send_to
     seek_look Opening o stamp gave stop at look holds fresh = absurd look
     seek_look (Sending x) o stamp gave stop at look holds fresh =
@@ -264,7 +266,7 @@ module _ (h : Head) (mode : ControlMode) (timeout : Duration) where
           is_last = λ i. ap reads_in gave i + ap (λ (ts : List Turn). count (mode_read motor) (gaves ts)) stop i;
           opens = opened x at ∙ ap Some look.0;
           looks = is_sent t.answer (switch_want mode p) k.fit (in_read mode p (Sending x) at).0 look.1;
-          finds = sym (k.sees (in_read mode p (Sending x) at).1) ∙ holds;
+          finds = sym (sees_mode p t (in_read mode p (Sending x) at).1) ∙ holds;
           fresh = omega (arith, fresh);
         }
     seek_look (Waiting (Checking x)) o stamp gave stop at look holds fresh = absurd look
@@ -281,19 +283,19 @@ module _ (h : Head) (mode : ControlMode) (timeout : Duration) where
             silent = refl;
             last = λ i. ap reads_in gave i + ap (λ (ts : List Turn). count (mode_read motor) (gaves ts)) stop i;
             slept = is_slept t.answer poll_interval (subst (λ (w : Want Message). fits w t.answer ≡ true) (in_read mode p (Waiting (Napping x)) at).0 k.fit);
-            finds = sym (k.sees (in_read mode p (Waiting (Napping x)) at).1) ∙ holds;
+            finds = sym (sees_mode p t (in_read mode p (Waiting (Napping x)) at).1) ∙ holds;
             fresh = subst (λ (i : Instant). i.0 ≤ stamp.0) (sym look) fresh;
           },
         )
 
     seek_done : next ≡ Ok (Break tt) → t.gave ≡ gave_result h mode timeout (Ok Outcome.Done) → ts ≡ [] → Sought r p (t ∷ ts)
     seek_done e gave stop =
-        let s : Saw mode timeout k.entry t.answer (mode_ask p) = law (Ok (Break tt)) e in
+        let s : Saw mode timeout (seen p t) t.answer (mode_ask p) = law (Ok (Break tt)) e in
         seek_look s.read s.opening s.found.stamp gave stop s.is s.look s.found.holds s.found.fresh
 
     onward_sought : (R : Switch → Type 0) → ((q : Switch) → R q → Opened (reading_or t.answer r) q → result_of ts ≡ Some (Ok Outcome.Done) → Sought (reading_or t.answer r) q ts)
         → (x : Stepped Switch (Unit {0})) → next ≡ x → Onward h mode timeout R x t ts → result_of (t ∷ ts) ≡ Some (Ok Outcome.Done) → Sought r p (t ∷ ts)
-    onward_sought R rest (Ok (Continue q)) e (gave, ran) done = seek_goes q e gave (rest q ran (opened_on p q r k.entry t.answer k.fit e) (sym (want_on h mode timeout t ts q gave) ∙ done))
+    onward_sought R rest (Ok (Continue q)) e (gave, ran) done = seek_goes q e gave (rest q ran (opened_on p q r (seen p t) t.answer k.fit e) (sym (want_on h mode timeout t ts q gave) ∙ done))
     onward_sought R rest (Ok (Break ended)) e (gave, stop) done = seek_done e gave stop
     onward_sought R rest (Err failure) e (gave, stop) done = absurd (not_done failure (sym (end_of h mode timeout t ts (Err failure) gave) ∙ done))
 
@@ -302,7 +304,7 @@ module _ (h : Head) (mode : ControlMode) (timeout : Duration) where
   sought z [] p l r ran opened done = absurd (none≢some done)
   sought z (t ∷ ts) p l r (k, on) opened done =
       let l' = (with_reading k.head t.answer).last in
-      onward_sought p l r opened t ts k (λ q. Ran h mode timeout z q l' ts) (λ q ran o d. sought z ts q l' (reading_or t.answer r) ran o d) (switch_step mode timeout k.entry p t.answer) refl on done
+      onward_sought p l r opened t ts k (λ q. Ran h mode timeout z q l' ts) (λ q ran o d. sought z ts q l' (reading_or t.answer r) ran o d) (switch_step mode timeout (seen p t) p t.answer) refl on done
 
   -- from the start on
   pub done_found : (z : Session) (ts : List Turn) (l : Instant) → Ran h mode timeout z Starting l ts → result_of ts ≡ Some (Ok Outcome.Done) → Succeeds None (want_of Starting) ts
@@ -339,18 +341,18 @@ module _ (h : Head) (mode : ControlMode) (timeout : Duration) where
     unfolding Ran gave_after reading_after
     walk [] rest p l r more ran opened = (record { at = p; from = l; ran = ran; gave = refl; opened = opened }, refl)
     walk (t ∷ before) rest p l r more (k, on) opened =
-        onward_cases h mode timeout (λ q. Runs q (with_reading k.head t.answer).last (before ++ rest)) t (before ++ rest) (switch_step mode timeout k.entry p t.answer) on
+        onward_cases h mode timeout (λ q. Runs q (with_reading k.head t.answer).last (before ++ rest)) t (before ++ rest) (switch_step mode timeout (seen p t) p t.answer) on
         (λ q e gave ran.
-        let x = walk before rest q (with_reading k.head t.answer).last (reading_or t.answer r) more ran (opened_on p q r k.entry t.answer k.fit e) in
+        let x = walk before rest q (with_reading k.head t.answer).last (reading_or t.answer r) more ran (opened_on p q r (seen p t) t.answer k.fit e) in
         (subst (λ (g : Gave). Reached (gave_after g before) (reading_after (reading_or t.answer r) before) rest) (sym gave) x.0, want_on h mode timeout t (before ++ rest) q gave ∙ x.1))
         (λ f e gave stop. absurd (more (rest_empty before rest stop)))
 
     -- the look
-    module _ (look : Turn) (later : List Turn) (o stamp : Instant) (finds : look.sees ≡ Held (UInt32 number) stamp) (fresh : o.0 ≤ stamp.0) where
+    module _ (look : Turn) (later : List Turn) (o stamp : Instant) (finds : look.sees (Reply 10) ≡ Held (UInt32 number) stamp) (fresh : o.0 ≤ stamp.0) where
       look_ends : (p : Switch) (l : Instant) → Runs p l (look ∷ later) → switch_place p ≡ Some (Reply 10) → switch_step mode timeout (Held (mode_value mode) stamp) p look.answer ≡ Ok (Break tt) → result_of (look ∷ later) ≡ Some (Ok Outcome.Done)
       unfolding Ran
       look_ends p l (k, on) place done =
-          let e : switch_step mode timeout k.entry p look.answer ≡ Ok (Break tt) = ap (λ (e : Entry). switch_step mode timeout e p look.answer) (k.sees place ∙ finds) ∙ done in
+          let e : switch_step mode timeout (seen p look) p look.answer ≡ Ok (Break tt) = ap (λ (e : Entry). switch_step mode timeout e p look.answer) (sees_mode p look place ∙ finds) ∙ done in
           let ended = subst (λ (x : Stepped Switch (Unit {0})). Onward h mode timeout (λ q. Runs q (with_reading k.head look.answer).last later) x look later) e on in
           end_of h mode timeout look later (Ok Outcome.Done) ended.0
 
@@ -368,19 +370,19 @@ module _ (h : Head) (mode : ControlMode) (timeout : Duration) where
         quiet_done [] p l ran quiet silent none_sent =
             slept_done p l ran (quiet_sleep mode o p quiet (subst (λ (a : Answer). fits (switch_want mode p) a ≡ true) slept ran.0.fit))
         quiet_done (u ∷ us) p l (k, on) quiet silent none_sent =
-            onward_cases h mode timeout (λ q. Runs q (with_reading k.head u.answer).last (us ++ (look ∷ later))) u (us ++ (look ∷ later)) (switch_step mode timeout k.entry p u.answer) on
+            onward_cases h mode timeout (λ q. Runs q (with_reading k.head u.answer).last (us ++ (look ∷ later))) u (us ++ (look ∷ later)) (switch_step mode timeout (seen p u) p u.answer) on
             (λ q e gave ran. want_on h mode timeout u (us ++ (look ∷ later)) q gave
             ∙ quiet_done us q (with_reading k.head u.answer).last ran
-            (subst (StaysQuiet mode timeout k.entry u.answer o) e (stays_quiet mode timeout k.entry u.answer o p quiet (silent_want (switch_want mode p) silent)))
+            (subst (StaysQuiet mode timeout (seen p u) u.answer o) e (stays_quiet mode timeout (seen p u) u.answer o p quiet (silent_want (switch_want mode p) silent)))
             (sym (ap sends_in gave) ∙ first_zero (sends_in u.gave) _ none_sent) (rest_zero (sends_in u.gave) _ none_sent))
             (λ r e gave stop. absurd (not_empty us look later stop))
 
         waited_done : (u : Turn) (us : List Turn) (p : Switch) (l : Instant) → Runs p l (u ∷ (us ++ (look ∷ later))) → mode_ask p ≡ Some (Sending o) → count sending (gaves (u ∷ us)) ≡ 0 → result_of (u ∷ (us ++ (look ∷ later))) ≡ Some (Ok Outcome.Done)
         unfolding Ran gaves count
         waited_done u us p l (k, on) at none_sent =
-            onward_cases h mode timeout (λ q. Runs q (with_reading k.head u.answer).last (us ++ (look ∷ later))) u (us ++ (look ∷ later)) (switch_step mode timeout k.entry p u.answer) on
+            onward_cases h mode timeout (λ q. Runs q (with_reading k.head u.answer).last (us ++ (look ∷ later))) u (us ++ (look ∷ later)) (switch_step mode timeout (seen p u) p u.answer) on
             (λ q e gave ran. want_on h mode timeout u (us ++ (look ∷ later)) q gave
-            ∙ quiet_done us q (with_reading k.head u.answer).last ran (subst (StaysQuiet mode timeout k.entry u.answer o) e (sending_quiet mode timeout k.entry u.answer o p at))
+            ∙ quiet_done us q (with_reading k.head u.answer).last ran (subst (StaysQuiet mode timeout (seen p u) u.answer o) e (sending_quiet mode timeout (seen p u) u.answer o p at))
             (sym (ap sends_in gave) ∙ first_zero (sends_in u.gave) _ none_sent) (rest_zero (sends_in u.gave) _ none_sent))
             (λ r e gave stop. absurd (not_empty us look later stop))
 

@@ -5,7 +5,7 @@ use mathlib.Core.Path.{◌≡◌, refl, sym, ap, ◌∙◌, subst}
 use mathlib.Core.Bool.{Bool, true, false, not, ◌&&◌, ◌||◌, true≢false}
 use mathlib.Core.Logic.{◌⊎◌, inl, inr}
 use native.Mathlib.Omega.{arith}
-use borrow.Author.Tests.{eqb-true, eq-eqb}
+use borrow.Author.Tests.{eq-eqb, ne_eqb}
 use lib.Dec.{eqb}
 use Rattle.registers.specs.Value.{bits_of}
 use Rattle.protocol_frame.specs.Layout.{packed_onto, little_endian, bytes}
@@ -31,10 +31,11 @@ use Rattle.session_step.specs.Parts.{caller_want}
 use Rattle.session_step.specs.declared.Told.TheVariants as Told
 use Rattle.run_want.specs.declared.Want.TheVariants as Wanted
 use Rattle.law_runs.specs.Trace.{Label, label, counted}
-use Rattle.law_switch.specs.Claim.{Gave, mode_read, mode_write, read_bytes, write_bytes, shared, once, a_send, a_sleep, on_7ff, wants_send, wants_sleep, any, reads_mode, writes_mode, a_want, send_to, is_sleep}
+use Rattle.law_calls.specs.Turns.{Gave, once, a_send, a_sleep, wants_send, wants_sleep, any, a_want, send_to, is_sleep}
+use Rattle.law_switch.specs.Claim.{mode_read, mode_write, read_bytes, write_bytes, shared, on_7ff, reads_mode, writes_mode}
 
 -- a switch reads registers 10 and 80, writes the mode to 10, and sends no other request
-abbrev Own : ControlMode → Want Message → Type 0
+abbrev pub Own : ControlMode → Want Message → Type 0
 Own mode Clock = Unit {0}
 Own mode (Send (ReadRegister rid)) = (rid ≡ 10) ⊎ (rid ≡ 80)
 Own mode (Send (WriteRegister rid bits)) = (rid ≡ 10) × (bits ≡ mode_number mode)
@@ -44,7 +45,7 @@ Own mode (Send StoreParams) = ⊥
 Own mode (Send (Setpoint m position)) = Unit {0}
 Own mode (Sleep length) = Unit {0}
 
-own : (mode : ControlMode) (p : Switch) → Own mode (switch_want mode p)
+pub own : (mode : ControlMode) (p : Switch) → Own mode (switch_want mode p)
 unfolding bits_of
 own mode Starting = tt
 own mode (Begun p (Remaining which)) = tt
@@ -98,26 +99,19 @@ or_true false = refl
 left_false : (a b : Bool) → a ≡ false → (a && b) ≡ false
 left_false a b e = ap (λ (x : Bool). x && b) e
 
-unequal : (a b : ℕ) → (a ≡ b → ⊥) → eqb a b ≡ false
-unequal a b apart = go (eqb a b) refl
-  where
-    go : (x : Bool) → eqb a b ≡ x → x ≡ false
-    go true e = absurd (apart (eqb-true a b e))
-    go false e = refl
-
 -- ---- the bytes of reads and writes, apart by their first four
 
 module _ (motor : ℕ) where
   read_80 : eqb (register_read_data motor 80) (register_read_data motor 10) ≡ false
   unfolding register_read_data addressed packed_onto little_endian bytes
-  read_80 = unequal (register_read_data motor 80) (register_read_data motor 10) (λ e. omega (arith, e))
+  read_80 = ne_eqb (register_read_data motor 80) (register_read_data motor 10) (λ e. omega (arith, e))
 
   write_no_read : (mode : ControlMode) → eqb (register_write_data motor 10 (mode_number mode)) (register_read_data motor 10) ≡ false
   unfolding register_read_data register_write_data addressed packed_onto little_endian bytes
-  write_no_read Mit = unequal (register_write_data motor 10 1) (register_read_data motor 10) (λ e. omega (arith, e))
-  write_no_read PosVel = unequal (register_write_data motor 10 2) (register_read_data motor 10) (λ e. omega (arith, e))
-  write_no_read Vel = unequal (register_write_data motor 10 3) (register_read_data motor 10) (λ e. omega (arith, e))
-  write_no_read ForcePos = unequal (register_write_data motor 10 4) (register_read_data motor 10) (λ e. omega (arith, e))
+  write_no_read Mit = ne_eqb (register_write_data motor 10 1) (register_read_data motor 10) (λ e. omega (arith, e))
+  write_no_read PosVel = ne_eqb (register_write_data motor 10 2) (register_read_data motor 10) (λ e. omega (arith, e))
+  write_no_read Vel = ne_eqb (register_write_data motor 10 3) (register_read_data motor 10) (λ e. omega (arith, e))
+  write_no_read ForcePos = ne_eqb (register_write_data motor 10 4) (register_read_data motor 10) (λ e. omega (arith, e))
 
   a_write : (mode : ControlMode) → write_bytes motor (register_write_data motor 10 (mode_number mode)) ≡ true
   unfolding register_write_data addressed packed_onto little_endian
@@ -128,12 +122,12 @@ module _ (motor : ℕ) where
 
   read_no_write : (rid : ℕ) → write_bytes motor (register_read_data motor rid) ≡ false
   unfolding register_read_data register_write_data addressed packed_onto little_endian bytes
-  read_no_write rid = unequal (register_read_data motor rid / 2 ^ 32) (register_write_data motor 10 0 / 2 ^ 32) (λ e. omega (arith, e))
+  read_no_write rid = ne_eqb (register_read_data motor rid / 2 ^ 32) (register_write_data motor 10 0 / 2 ^ 32) (λ e. omega (arith, e))
 
   -- a setpoint goes to 0x7FF only from the ids that share it
   hold_off : (mode : ControlMode) → shared motor ≡ false → eqb (hold_id motor mode) 0x7ff ≡ false
   unfolding shared
-  hold_off mode off = unequal (hold_id motor mode) 0x7ff (λ e. true≢false (sym (at mode e) ∙ off))
+  hold_off mode off = ne_eqb (hold_id motor mode) 0x7ff (λ e. true≢false (sym (at mode e) ∙ off))
     where
       at : (m : ControlMode) → hold_id motor m ≡ 0x7ff → shared motor ≡ true
       at Mit e = ap shared e
@@ -182,20 +176,20 @@ module _ (h : Head) where
   sleeps_weight (Sleep length) = refl
 
   -- what a want gives
-  abbrev gives : Want Message → Gave
-  gives w = record { told = Ok (Told.Want (caller_want h w)); wants = Some w }
+  abbrev pub gives_want : Want Message → Gave
+  gives_want w = record { told = Ok (Told.Want (caller_want h w)); wants = Some w }
 
   abbrev motor : ℕ
   motor = h.motor_id
 
-  reads_own : (mode : ControlMode) (w : Want Message) → Own mode w → mode_read motor (gives w) ≡ wants_send reads_mode (Some w)
+  reads_own : (mode : ControlMode) (w : Want Message) → Own mode w → mode_read motor (gives_want w) ≡ wants_send reads_mode (Some w)
   unfolding a_want send_to wants_send reads_mode any
   reads_own mode Clock o = refl
   reads_own mode (Send (ReadRegister rid)) (inl e) =
-      subst (λ (r : ℕ). mode_read motor (gives (Send (ReadRegister r))) ≡ wants_send reads_mode (Some (Send (ReadRegister r)))) (sym e)
+      subst (λ (r : ℕ). mode_read motor (gives_want (Send (ReadRegister r))) ≡ wants_send reads_mode (Some (Send (ReadRegister r)))) (sym e)
       (λ i. eq-eqb (register_read_data motor 10) (register_read_data motor 10) refl i && or_true (not (shared motor)) i)
   reads_own mode (Send (ReadRegister rid)) (inr e) =
-      subst (λ (r : ℕ). mode_read motor (gives (Send (ReadRegister r))) ≡ wants_send reads_mode (Some (Send (ReadRegister r)))) (sym e)
+      subst (λ (r : ℕ). mode_read motor (gives_want (Send (ReadRegister r))) ≡ wants_send reads_mode (Some (Send (ReadRegister r)))) (sym e)
       (left_false (eqb (register_read_data motor 80) (register_read_data motor 10)) _ (read_80 motor))
   reads_own mode (Send (WriteRegister rid bits)) o =
       left_false (eqb (register_write_data motor rid bits) (register_read_data motor 10)) _
@@ -206,7 +200,7 @@ module _ (h : Head) where
   reads_own mode (Send (Setpoint m position)) o = hold_neither motor (read_bytes motor) m (hold_data h.limits m position.0)
   reads_own mode (Sleep length) o = refl
 
-  writes_own : (mode : ControlMode) (w : Want Message) → Own mode w → mode_write motor (gives w) ≡ wants_send writes_mode (Some w)
+  writes_own : (mode : ControlMode) (w : Want Message) → Own mode w → mode_write motor (gives_want w) ≡ wants_send writes_mode (Some w)
   unfolding a_want send_to wants_send writes_mode
   writes_own mode Clock o = refl
   writes_own mode (Send (ReadRegister rid)) o = left_false (write_bytes motor (register_read_data motor rid)) _ (read_no_write motor rid)
@@ -220,10 +214,10 @@ module _ (h : Head) where
   writes_own mode (Send (Setpoint m position)) o = hold_neither motor (write_bytes motor) m (hold_data h.limits m position.0)
   writes_own mode (Sleep length) o = refl
 
-  pub reads_alike : (mode : ControlMode) (p : Switch) → mode_read motor (gives (switch_want mode p)) ≡ wants_send reads_mode (Some (switch_want mode p))
+  pub reads_alike : (mode : ControlMode) (p : Switch) → mode_read motor (gives_want (switch_want mode p)) ≡ wants_send reads_mode (Some (switch_want mode p))
   reads_alike mode p = reads_own mode (switch_want mode p) (own mode p)
 
-  pub writes_alike : (mode : ControlMode) (p : Switch) → mode_write motor (gives (switch_want mode p)) ≡ wants_send writes_mode (Some (switch_want mode p))
+  pub writes_alike : (mode : ControlMode) (p : Switch) → mode_write motor (gives_want (switch_want mode p)) ≡ wants_send writes_mode (Some (switch_want mode p))
   writes_alike mode p = writes_own mode (switch_want mode p) (own mode p)
 
   of_label : (m : Message) → (once (reads_mode m) ≡ mode_reads (label m)) × (once (writes_mode m) ≡ mode_writes (label m))
@@ -241,8 +235,8 @@ module _ (h : Head) where
   pub writes_weight : (w : Want Message) → once (wants_send writes_mode (Some w)) ≡ counted 0 mode_writes 0 w
   writes_weight = weight writes_mode mode_writes (λ m. (of_label m).1)
 
-  pub reads_count : (mode : ControlMode) (p : Switch) → once (mode_read motor (gives (switch_want mode p))) ≡ counted 0 mode_reads 0 (switch_want mode p)
+  pub reads_count : (mode : ControlMode) (p : Switch) → once (mode_read motor (gives_want (switch_want mode p))) ≡ counted 0 mode_reads 0 (switch_want mode p)
   reads_count mode p = ap once (reads_alike mode p) ∙ reads_weight (switch_want mode p)
 
-  pub writes_count : (mode : ControlMode) (p : Switch) → once (mode_write motor (gives (switch_want mode p))) ≡ counted 0 mode_writes 0 (switch_want mode p)
+  pub writes_count : (mode : ControlMode) (p : Switch) → once (mode_write motor (gives_want (switch_want mode p))) ≡ counted 0 mode_writes 0 (switch_want mode p)
   writes_count mode p = ap once (writes_alike mode p) ∙ writes_weight (switch_want mode p)

@@ -24,17 +24,11 @@ use Rattle.law_runs.specs.Clock.{known_after, AllFine, Clock as Known, moving, M
 use Rattle.law_runs.specs.Systems.{phase_of, running}
 use Rattle.law_runs.specs.Trace.{Given, wants_from, after}
 use Rattle.law_runs.specs.Trace as Trace
-use Rattle.law_switch.specs.Claim.{Gave, Turn, gaves, once, count, result_in, result_of, reading_or, next_reading, AllMove}
+use Rattle.law_calls.specs.Turns.{Gave, Turn, gaves, once, count, result_in, result_of, reading_or, next_reading, AllMove}
+use Rattle.law_calls.proofs.Lists.{none≢some}
 use Rattle.law_switch.proofs.Moving.{Behind, Pending, Goes_on, goes_on}
-use Rattle.law_switch.proofs.Ran.{machine, after_switch, gave_want, gave_result, Took, onward_cases, Ran}
+use Rattle.law_switch.proofs.Ran.{machine, after_switch, gave_want, gave_result, seen, Took, onward_cases, Ran}
 use Rattle.session_step.specs.declared.Told.TheVariants as Told
-
-pub none≢some : {A : Type 0} {x : A} → None ≡ Some x → ⊥
-none≢some {A} e = subst IsNone e tt
-  where
-    IsNone : Option A → Type 0
-    IsNone None = Unit {0}
-    IsNone (Some x) = ⊥
 
 -- a want is no result
 no_result : (h : Head) (w : Want Message) (later : Option RunResult) → result_in (Ok (Told.Want (caller_want h w))) later ≡ later
@@ -78,13 +72,13 @@ module _ (h : Head) (mode : ControlMode) (timeout : Duration) where
 
     module _ (t : Turn) (ts : List Turn) (k : Took h mode timeout p l t) where
       abbrev given : Given
-      given = record { answer = t.answer; latest = k.head.feedback.latest; entry = k.entry }
+      given = record { answer = t.answer; latest = k.head.feedback.latest; entry = seen p t }
 
       abbrev stepped : Stepped Switch (Unit {0}) → Option Machine
       stepped x = phase_of (after_switch h mode timeout x)
 
       abbrev next : Stepped Switch (Unit {0})
-      next = switch_step mode timeout k.entry p t.answer
+      next = switch_step mode timeout (seen p t) p t.answer
 
       fine_on : (k' : Known) → Behind k'.last l → Pending k' (next_reading (t ∷ ts)) → AllMove k'.last (want_of p).told (t ∷ ts) → Goes_on (switch_want mode p) t.answer k' k.head (next_reading ts)
       unfolding next_reading AllMove
@@ -127,6 +121,6 @@ module _ (h : Head) (mode : ControlMode) (timeout : Duration) where
   unfolding Ran
   traced z [] p l r = none_yet p l
   traced z (t ∷ ts) p l (k, on) =
-      onward_cases h mode timeout (λ q. Ran h mode timeout z q (with_reading k.head t.answer).last ts) t ts (switch_step mode timeout k.entry p t.answer) on
+      onward_cases h mode timeout (λ q. Ran h mode timeout z q (with_reading k.head t.answer).last ts) t ts (switch_step mode timeout (seen p t) p t.answer) on
       (λ q x gave ran. goes p l t ts k q x gave (traced z ts q (with_reading k.head t.answer).last ran))
       (λ r x gave stop. ends p l t ts k r x gave stop)
