@@ -34,7 +34,7 @@ wants_accepted : (h : Head) (w : Want Message) → Accepted (Ok (Told.Want (call
 unfolding Accepted
 wants_accepted h w = tt
 
-module _ (h : Head) (end : Session) where
+module _ (h : Head) where
   -- a turn that goes on has no result, and one that ends has that one
   pub want_on : (t : Turn) (ts : List Turn) (m : Machine) → t.gave ≡ gives h m → result_of (t ∷ ts) ≡ result_of ts
   unfolding result_of result_in
@@ -44,6 +44,7 @@ module _ (h : Head) (end : Session) where
   unfolding result_of result_in
   end_of t ts r gave = ap (λ (g : Gave). result_in g.told (result_of ts)) gave
 
+module _ (h : Head) (end : Session) where
   abbrev StandsOpen : Type 0
   StandsOpen = (m : Machine) × (end.run ≡ Some m) × (end.head.last.0 ≤ 2 ^ 62)
 
@@ -52,8 +53,8 @@ module _ (h : Head) (end : Session) where
   still_open [] m l ran e = (m, ran.0, ran.1)
   still_open (t ∷ ts) m l (k, on) e =
       onward_cases h (λ q. Ran h end q (with_reading k.head t.answer).last ts) t ts (next h m l t k) on
-      (λ q x gave ran. still_open ts q (with_reading k.head t.answer).last ran (sym (want_on t ts q gave) ∙ e))
-      (λ r gave stop. absurd (none≢some (sym e ∙ end_of t ts r gave)))
+      (λ q x gave ran. still_open ts q (with_reading k.head t.answer).last ran (sym (want_on h t ts q gave) ∙ e))
+      (λ r over gave stop. absurd (none≢some (sym e ∙ end_of h t ts r gave)))
 
   -- an answer that is accepted
   pub answered : StandsOpen → (a : Answer) × (w : Answered) × ((step end (Call.Answer a)).told ≡ Returned.Run w) × Accepted w
@@ -78,5 +79,5 @@ module _ (h : Head) (end : Session) where
   closed_after [] m l g r ran e = absurd (none≢some e)
   closed_after (t ∷ ts) m l g r (k, on) e =
       onward_cases h (λ q. Ran h end q (with_reading k.head t.answer).last ts) t ts (next h m l t k) on
-      (λ q x gave ran. closed_after ts q (with_reading k.head t.answer).last t.gave r ran (sym (want_on t ts q gave) ∙ e))
-      (λ s gave stop. ap (λ (ts : List Turn). (gave_after t.gave ts).wants) stop ∙ ap (λ (g : Gave). g.wants) gave)
+      (λ q x gave ran. closed_after ts q (with_reading k.head t.answer).last t.gave r ran (sym (want_on h t ts q gave) ∙ e))
+      (λ s over gave stop. ap (λ (ts : List Turn). (gave_after t.gave ts).wants) stop ∙ ap (λ (g : Gave). g.wants) gave)

@@ -40,6 +40,7 @@ use Rattle.law_calls.proofs.Ran.{ran}
 use Rattle.law_calls.proofs.Readings.{readings, list_stamps}
 use Rattle.law_calls.proofs.Sessions.{Sound, list_sound, list_held, refused_leaves}
 use Rattle.law_calls.proofs.Started.{fresh_sound, fresh_holds, fresh_stamped}
+use Rattle.law_calls.proofs.Traced.{as_wanted, at_most}
 use Rattle.law_calls.proofs.Turning.{turn_calls}
 
 -- ---- what a call leaves alone
@@ -132,6 +133,8 @@ module _ (s : Session) (sound : Sound s.head s) (b : Start) (after : List Call) 
             refuses = λ e. refuses s.head end (still_open s.head end ts m s.head.last steps e);
             closes = λ r e. closed_after s.head end ts m s.head.last _ r steps e;
           };
+          as_wanted = as_wanted s.head end ts m s.head.last steps;
+          within = at_most s.head end ts m s.head.last steps;
         }
 
     accepted_start : Starts began

@@ -1,9 +1,11 @@
 pub mod Ended
 pub mod Laws
 pub mod Lists
+pub mod Moving
 pub mod Origin
 pub mod Ran
 pub mod Readings
 pub mod Sessions
 pub mod Started
+pub mod Traced
 pub mod Turning

@@ -36,6 +36,7 @@ use Rattle.motor_core.specs.declared.error.Refusal.TheVariants.{RunOpen}
 use Rattle.session_begin.specs.declared.Start.{Start}
 use Rattle.session_call.specs.Step.{step}
 use Rattle.session_call.specs.declared.Call.{Call}
+use Rattle.law_runs.specs.Systems.{phase_of}
 use Rattle.law_calls.specs.Calls.{open_want, event, events, session_after}
 use Rattle.law_calls.specs.Laws.{held}
 use Rattle.law_calls.specs.Places.{brings, Sees, seen_with}
@@ -57,10 +58,10 @@ module _ (h : Head) where
   -- by what a step came to
   pub onward_cases : {P : Type 0} (R : Machine → Type 0) (t : Turn) (ts : List Turn) (x : Stepped Machine Outcome) → Onward h R x t ts
       → ((q : Machine) → x ≡ Ok (Continue q) → t.gave ≡ gives h q → R q → P)
-      → ((r : RunResult) → t.gave ≡ gives_result h r → ts ≡ [] → P) → P
+      → ((r : RunResult) → phase_of x ≡ None → t.gave ≡ gives_result h r → ts ≡ [] → P) → P
   onward_cases R t ts (Ok (Continue q)) (gave, rest) goes ends = goes q refl gave rest
-  onward_cases R t ts (Ok (Break outcome)) (gave, stop) goes ends = ends (Ok outcome) gave stop
-  onward_cases R t ts (Err failure) (gave, stop) goes ends = ends (Err failure) gave stop
+  onward_cases R t ts (Ok (Break outcome)) (gave, stop) goes ends = ends (Ok outcome) refl gave stop
+  onward_cases R t ts (Err failure) (gave, stop) goes ends = ends (Err failure) refl gave stop
 
   -- a turn by its step
   by_step : (end : Session) (m : Machine) (l : Instant) (t : Turn) (ts : List Turn) (k : Took h m l t) (x : Stepped Machine Outcome) → next h m l t k ≡ x → Onward h (λ q. Ran h end q (with_reading k.head t.answer).last ts) x t ts → Ran h end m l (t ∷ ts)

@@ -1,5 +1,5 @@
 -- What holds of every list of calls on a session. Statements; `laws` in proofs/Laws.antt has their proofs.
-use Rattle.std.specs.Prelude.{ℕ, ◌+◌, ◌≤◌, ◌^◌, ◌≡◌, Bool, List, [], ◌∷◌, ◌++◌, None, Option, Some, Ok, Err}
+use Rattle.std.specs.Prelude.{ℕ, ◌+◌, ◌≤◌, ◌<◌, ◌^◌, length, ◌≡◌, Bool, List, [], ◌∷◌, ◌++◌, None, Option, Some, Ok, Err}
 use Rattle.motor_core.specs.declared.bus.CanFrame.{CanFrame}
 use Rattle.motor_core.specs.declared.error.Refusal.TheVariants.{RunOpen}
 use Rattle.time.specs.declared.Instant.{Instant}
@@ -19,10 +19,12 @@ use Rattle.session_begin.specs.declared.Start.{Start}
 use Rattle.session_call.specs.Step.{step}
 use Rattle.session_call.specs.declared.Call.{Call}
 use Rattle.session_call.specs.declared.Returned.{Returned}
+use Rattle.law_runs.specs.Bounds.{Within}
+use Rattle.law_runs.specs.Trace.{Label}
 use Rattle.law_calls.specs.Calls.{Fresh, Event, event, events, session_after, Answered, Accepted, IsRefusal}
 use Rattle.law_calls.specs.Places.{said, brings, last_taken, Sees, nothing, seen_after}
 use Rattle.law_calls.specs.Ran.{gives, Ran}
-use Rattle.law_calls.specs.Turns.{Gave, Turn, turns, turns_after, result_of, result, gave_after, gaves, count}
+use Rattle.law_calls.specs.Turns.{Gave, Turn, turns, turns_after, result_of, result, gave_after, gaves, count, a_send, a_sleep, wants_send, wants_sleep, any, AllMove}
 
 -- ---- what a call leaves alone, by its kind
 
@@ -145,12 +147,26 @@ pub record Alone (first : Gave) (ts : List Turn) (end : Session) : Type 0 where
   pub refuses : result first ts ≡ None → (other : Start) → (step end (Call.Start other)).told ≡ Returned.Run (Err RunOpen)
   pub closes : (r : RunResult) → result first ts ≡ Some r → (gave_after first ts).wants ≡ None
 
+-- the run's definition counts the same sends and sleeps
+pub record AsWanted (first : Gave) (ts : List Turn) : Type 0 where
+  pub sends : count (λ g. a_send g.told) (first ∷ gaves ts) ≡ count (λ g. wants_send any g.wants) (first ∷ gaves ts)
+  pub sleeps : count (λ g. a_sleep g.told) (first ∷ gaves ts) ≡ count (λ g. wants_sleep g.wants) (first ∷ gaves ts)
+
+-- so many sends at most; if its sleeps move the clock on, so many sleeps, and while it has no result fewer accepted answers
+pub record AtMost (first : Gave) (ts : List Turn) (most_sends most_sleeps answers : ℕ) : Type 0 where
+  pub sends : count (λ g. a_send g.told) (first ∷ gaves ts) ≤ most_sends
+  pub sleeps : AllMove None first.told ts → count (λ g. a_sleep g.told) (first ∷ gaves ts) ≤ most_sleeps
+  pub ends : AllMove None first.told ts → result first ts ≡ None → length ts < answers
+
 pub record OfRun (s : Session) (start : Start) (first : Gave) (ts : List Turn) (end : Session) : Type 0 where
   pub machine : Machine
   pub opened : machine_of start ≡ Ok machine
   pub wants : first ≡ gives s.head machine
   pub steps : Ran s.head end machine s.head.last ts
   pub alone : Alone first ts end
+  pub as_wanted : AsWanted first ts
+  -- what its definition wants at most, by `law_runs`, is what its turns give at most
+  pub within : (sends : (Label → ℕ) → ℕ) (sleeps answers : ℕ) → Within machine sends sleeps answers → AtMost first ts (sends (λ command. 1)) sleeps answers
 
 pub record Laws : Type 0 where
   -- a refused call leaves the session that it got, and every call what is not its own

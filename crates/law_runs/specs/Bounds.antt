@@ -26,6 +26,10 @@ pub record Within (start : Machine) (sends : (Label → ℕ) → ℕ) (sleeps an
   pub sleeps_at_most : (gs : List Given) → Moving running gs unheard (Some start) → total one_sleep (wants_from running gs (Some start)) ≤ sleeps
   pub ends_after : (gs : List Given) → Moving running gs unheard (Some start) → answers ≤ length gs → after running gs (Some start) ≡ None
 
+-- of a switch four reads of the mode, nine writes, the read of the position, four clearing frames and three hold frames
+abbrev pub switch_sends : ControlMode → (Label → ℕ) → ℕ
+switch_sends mode w = 4 * w (Label.read 10) + 9 * w (Label.write 10 (mode_number mode)) + w (Label.read 80) + (w (Label.hold Vel) + w (Label.hold PosVel) + w (Label.hold ForcePos) + w (Label.hold Mit)) + 3 * w (Label.hold mode)
+
 pub record Bounds : Type 0 where
   -- a wait by itself, and one for an ack: sleeps that fit its length, rounded up, if they move the clock
   pub wait : (l : Duration) (finds : Given → Instant → Bool) (o : Instant) (gs : List Given) → Moving (waiting l finds) gs (heard o) (Some (Checking o)) → total one_sleep (wants_from (waiting l finds) gs (Some (Checking o))) ≤ polls l.0
@@ -36,9 +40,4 @@ pub record Bounds : Type 0 where
   -- three tries with 25 sleeps each, and two gaps
   pub write : (rid : ℕ) (value : RegisterValue) → Within (WriteRegister rid value first_try) (λ w. 3 * w (Label.write rid (bits_of value))) 77 161
   pub store : Within (StoreParameters (Asking Opening)) (λ w. w Label.request + w Label.disable + w Label.store) 27 57
-  -- four reads of the mode, nine writes, the read of the position, four clearing frames and three hold frames
-  pub switch : (mode : ControlMode) (l : Duration) →
-      Within (EnsureControlMode mode l Starting)
-      (λ w. 4 * w (Label.read 10) + 9 * w (Label.write 10 (mode_number mode)) + w (Label.read 80) + (w (Label.hold Vel) + w (Label.hold PosVel) + w (Label.hold ForcePos) + w (Label.hold Mit)) + 3 * w (Label.hold mode))
-      449
-      947
+  pub switch : (mode : ControlMode) (l : Duration) → Within (EnsureControlMode mode l Starting) (switch_sends mode) 449 947

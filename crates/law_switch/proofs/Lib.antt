@@ -1,9 +1,7 @@
 pub mod ModeReads
-pub mod Moving
 pub mod Ran
 pub mod Started
 pub mod Success
 pub mod Told
-pub mod Traced
 pub mod Demand
 pub mod Written

@@ -1,7 +1,7 @@
 -- How a switch ran: each of its turns is one step of its definition. Assumes nothing.
-use Rattle.std.specs.Prelude.{None, Some, Ok, Err}
+use Rattle.std.specs.Prelude.{None, Option, Some, Ok, Err}
 use Prim.Native.Nat.{◌≤◌, ◌^◌}
-use mathlib.Core.Path.{◌≡◌, refl, ap}
+use mathlib.Core.Path.{◌≡◌, refl, ap, ◌∙◌}
 use mathlib.Core.List.{List, [], ◌∷◌}
 use Rattle.std.specs.declared.ops.ControlFlow.TheVariants.{Continue, Break}
 use Rattle.time.specs.declared.Instant.{Instant}
@@ -17,6 +17,10 @@ use Rattle.run_machine.specs.Machine.{RunResult}
 use Rattle.run_machine.specs.declared.Machine.{Machine}
 use Rattle.run_machine.specs.declared.Machine.TheVariants.{EnsureControlMode}
 use Rattle.run_machine.specs.declared.Outcome.{Outcome}
+use Rattle.run_step.specs.Step.{machine_step}
+use Rattle.run_want.specs.declared.Answer.{Answer}
+use Rattle.state_feedback.specs.declared.FeedbackSnapshot.{FeedbackSnapshot}
+use Rattle.motor_core.proofs.Turned.{clash}
 use Rattle.session.specs.declared.Head.{Head}
 use Rattle.session.specs.declared.Session.{Session}
 use Rattle.session_step.specs.Parts.{with_reading}
@@ -80,3 +84,19 @@ module _ (h : Head) (mode : ControlMode) (timeout : Duration) where
         go rest (Ok (Continue q)) (gave, on) = (gave, rest q on)
         go rest (Ok (Break done)) on = on
         go rest (Err failure) on = on
+
+-- its machine is a switch's in each of its phases
+module _ (mode : ControlMode) (timeout : Duration) where
+  abbrev pub IsSwitch : Machine → Type 0
+  IsSwitch m = (p : Switch) × (EnsureControlMode mode timeout p ≡ m)
+
+  pub stays_switch : (latest : Option FeedbackSnapshot) (e : Entry) (m : Machine) (a : Answer) (q : Machine) → IsSwitch m → machine_step latest e m a ≡ Ok (Continue q) → IsSwitch q
+  stays_switch latest e m a q (p, is) next = go (switch_step mode timeout e p a) (ap (λ (m : Machine). machine_step latest e m a) is ∙ next)
+    where
+      the_same : (r : Switch) → ◌≡◌ {A = Stepped Machine Outcome} (Ok (Continue (EnsureControlMode mode timeout r))) (Ok (Continue q)) → EnsureControlMode mode timeout r ≡ q
+      the_same r h = cc
+
+      go : (x : Stepped Switch (Unit {0})) → map_stepped (EnsureControlMode mode timeout) (λ done. Outcome.Done) x ≡ Ok (Continue q) → IsSwitch q
+      go (Ok (Continue r)) h = (r, the_same r h)
+      go (Ok (Break done)) h = absurd (clash (cc))
+      go (Err failure) h = absurd (clash (cc))

@@ -43,10 +43,10 @@ use Rattle.motor_core.proofs.Turned.{clash}
 use Rattle.law_calls.specs.Turns.{Gave, Turn, gaves, once, count, a_send, wants_send, result_of, reading_or, gave_after, reading_after, a_want, send_to}
 use Rattle.law_switch.specs.Claim.{reads_mode, mode_read, Looks, Found}
 use Rattle.law_switch.proofs.ModeReads.{mode_ask, in_read, ask_of, Saw, Entered, Law, switch_law, EndsDone, ends_done, Quiet, WantsSend, StaysQuiet, sending_quiet, stays_quiet, quiet_sleep}
-use Rattle.law_switch.proofs.Ran.{gave_want, gave_result, seen, sees_mode, Took, Onward, onward_cases, Ran}
+use Rattle.law_switch.proofs.Ran.{machine, gave_want, gave_result, seen, sees_mode, Took, Onward, onward_cases, Ran}
 use Rattle.law_switch.proofs.Told.{reads_alike}
+use Rattle.law_calls.proofs.Ended.{want_on, end_of}
 use Rattle.law_calls.proofs.Lists.{none≢some}
-use Rattle.law_switch.proofs.Traced.{want_on, end_of}
 
 -- an answer of the kind that is wanted
 pub clock_read : (r : Option Instant) (a : Answer) → fits Clock a ≡ true → reading_or a r ≡ Some (reading_of a)
@@ -295,9 +295,9 @@ module _ (h : Head) (mode : ControlMode) (timeout : Duration) where
 
     onward_sought : (R : Switch → Type 0) → ((q : Switch) → R q → Opened (reading_or t.answer r) q → result_of ts ≡ Some (Ok Outcome.Done) → Sought (reading_or t.answer r) q ts)
         → (x : Stepped Switch (Unit {0})) → next ≡ x → Onward h mode timeout R x t ts → result_of (t ∷ ts) ≡ Some (Ok Outcome.Done) → Sought r p (t ∷ ts)
-    onward_sought R rest (Ok (Continue q)) e (gave, ran) done = seek_goes q e gave (rest q ran (opened_on p q r (seen p t) t.answer k.fit e) (sym (want_on h mode timeout t ts q gave) ∙ done))
+    onward_sought R rest (Ok (Continue q)) e (gave, ran) done = seek_goes q e gave (rest q ran (opened_on p q r (seen p t) t.answer k.fit e) (sym (want_on h t ts (machine h mode timeout q) gave) ∙ done))
     onward_sought R rest (Ok (Break ended)) e (gave, stop) done = seek_done e gave stop
-    onward_sought R rest (Err failure) e (gave, stop) done = absurd (not_done failure (sym (end_of h mode timeout t ts (Err failure) gave) ∙ done))
+    onward_sought R rest (Err failure) e (gave, stop) done = absurd (not_done failure (sym (end_of h t ts (Err failure) gave) ∙ done))
 
   sought : (z : Session) (ts : List Turn) (p : Switch) (l : Instant) (r : Option Instant) → Ran h mode timeout z p l ts → Opened r p → result_of ts ≡ Some (Ok Outcome.Done) → Sought r p ts
   unfolding Ran result_of
@@ -344,7 +344,7 @@ module _ (h : Head) (mode : ControlMode) (timeout : Duration) where
         onward_cases h mode timeout (λ q. Runs q (with_reading k.head t.answer).last (before ++ rest)) t (before ++ rest) (switch_step mode timeout (seen p t) p t.answer) on
         (λ q e gave ran.
         let x = walk before rest q (with_reading k.head t.answer).last (reading_or t.answer r) more ran (opened_on p q r (seen p t) t.answer k.fit e) in
-        (subst (λ (g : Gave). Reached (gave_after g before) (reading_after (reading_or t.answer r) before) rest) (sym gave) x.0, want_on h mode timeout t (before ++ rest) q gave ∙ x.1))
+        (subst (λ (g : Gave). Reached (gave_after g before) (reading_after (reading_or t.answer r) before) rest) (sym gave) x.0, want_on h t (before ++ rest) (machine h mode timeout q) gave ∙ x.1))
         (λ f e gave stop. absurd (more (rest_empty before rest stop)))
 
     -- the look
@@ -354,7 +354,7 @@ module _ (h : Head) (mode : ControlMode) (timeout : Duration) where
       look_ends p l (k, on) place done =
           let e : switch_step mode timeout (seen p look) p look.answer ≡ Ok (Break tt) = ap (λ (e : Entry). switch_step mode timeout e p look.answer) (sees_mode p look place ∙ finds) ∙ done in
           let ended = subst (λ (x : Stepped Switch (Unit {0})). Onward h mode timeout (λ q. Runs q (with_reading k.head look.answer).last later) x look later) e on in
-          end_of h mode timeout look later (Ok Outcome.Done) ended.0
+          end_of h look later (Ok Outcome.Done) ended.0
 
       sent_done : (p : Switch) (l : Instant) → Runs p l (look ∷ later) → mode_ask p ≡ Some (Sending o) → look.answer ≡ Answer.Send (Ok tt) → result_of (look ∷ later) ≡ Some (Ok Outcome.Done)
       sent_done p l ran at sent =
@@ -371,7 +371,7 @@ module _ (h : Head) (mode : ControlMode) (timeout : Duration) where
             slept_done p l ran (quiet_sleep mode o p quiet (subst (λ (a : Answer). fits (switch_want mode p) a ≡ true) slept ran.0.fit))
         quiet_done (u ∷ us) p l (k, on) quiet silent none_sent =
             onward_cases h mode timeout (λ q. Runs q (with_reading k.head u.answer).last (us ++ (look ∷ later))) u (us ++ (look ∷ later)) (switch_step mode timeout (seen p u) p u.answer) on
-            (λ q e gave ran. want_on h mode timeout u (us ++ (look ∷ later)) q gave
+            (λ q e gave ran. want_on h u (us ++ (look ∷ later)) (machine h mode timeout q) gave
             ∙ quiet_done us q (with_reading k.head u.answer).last ran
             (subst (StaysQuiet mode timeout (seen p u) u.answer o) e (stays_quiet mode timeout (seen p u) u.answer o p quiet (silent_want (switch_want mode p) silent)))
             (sym (ap sends_in gave) ∙ first_zero (sends_in u.gave) _ none_sent) (rest_zero (sends_in u.gave) _ none_sent))
@@ -381,7 +381,7 @@ module _ (h : Head) (mode : ControlMode) (timeout : Duration) where
         unfolding Ran gaves count
         waited_done u us p l (k, on) at none_sent =
             onward_cases h mode timeout (λ q. Runs q (with_reading k.head u.answer).last (us ++ (look ∷ later))) u (us ++ (look ∷ later)) (switch_step mode timeout (seen p u) p u.answer) on
-            (λ q e gave ran. want_on h mode timeout u (us ++ (look ∷ later)) q gave
+            (λ q e gave ran. want_on h u (us ++ (look ∷ later)) (machine h mode timeout q) gave
             ∙ quiet_done us q (with_reading k.head u.answer).last ran (subst (StaysQuiet mode timeout (seen p u) u.answer o) e (sending_quiet mode timeout (seen p u) u.answer o p at))
             (sym (ap sends_in gave) ∙ first_zero (sends_in u.gave) _ none_sent) (rest_zero (sends_in u.gave) _ none_sent))
             (λ r e gave stop. absurd (not_empty us look later stop))

@@ -31,7 +31,8 @@ use Rattle.session_step.specs.Parts.{caller_want}
 use Rattle.session_step.specs.declared.Told.TheVariants as Told
 use Rattle.run_want.specs.declared.Want.TheVariants as Wanted
 use Rattle.law_runs.specs.Trace.{Label, label, counted}
-use Rattle.law_calls.specs.Turns.{Gave, once, a_send, a_sleep, wants_send, wants_sleep, any, a_want, send_to, is_sleep}
+use Rattle.law_calls.specs.Turns.{Gave, once, wants_send, any, a_want, send_to}
+use Rattle.law_calls.proofs.Traced.{message_weight}
 use Rattle.law_switch.specs.Claim.{mode_read, mode_write, read_bytes, write_bytes, shared, on_7ff, reads_mode, writes_mode}
 
 -- a switch reads registers 10 and 80, writes the mode to 10, and sends no other request
@@ -68,10 +69,7 @@ own mode (Begun p (SettleRemaining n)) = tt
 own mode (Begun p (SettleSleep n l)) = tt
 own mode (Begun p (Holding n)) = tt
 
--- weights of commands: each of them, reads of register 10, writes of it
-abbrev pub each : Label → ℕ
-each command = 1
-
+-- weights of commands: reads of register 10, writes of it
 abbrev pub mode_reads : Label → ℕ
 mode_reads (Label.read rid) = once (eqb rid 10)
 mode_reads (Label.write rid bits) = 0
@@ -145,36 +143,6 @@ module _ (motor : ℕ) where
       go false e = ap (λ (x : Bool). (x && of bytes) && true) (hold_off mode e)
 
 module _ (h : Head) where
-  -- of any want
-  pub sends_count : (w : Want Message) → once (a_send (Ok (Told.Want (caller_want h w)))) ≡ counted 0 each 0 w
-  unfolding a_want send_to
-  sends_count Clock = refl
-  sends_count (Send message) = refl
-  sends_count (Sleep length) = refl
-
-  pub sleeps_count : (w : Want Message) → once (a_sleep (Ok (Told.Want (caller_want h w)))) ≡ counted 0 (λ command. 0) 1 w
-  unfolding a_want is_sleep
-  sleeps_count Clock = refl
-  sleeps_count (Send message) = refl
-  sleeps_count (Sleep length) = refl
-
-  -- a want that is a send of such a message, by the weight of its command
-  weight : (of : Message → Bool) (heavy : Label → ℕ) → ((m : Message) → once (of m) ≡ heavy (label m)) → (w : Want Message) → once (wants_send of (Some w)) ≡ counted 0 heavy 0 w
-  unfolding wants_send
-  weight of heavy weighs Clock = refl
-  weight of heavy weighs (Send message) = weighs message
-  weight of heavy weighs (Sleep length) = refl
-
-  pub sends_weight : (w : Want Message) → once (wants_send any (Some w)) ≡ counted 0 each 0 w
-  unfolding any
-  sends_weight = weight any each (λ m. refl)
-
-  pub sleeps_weight : (w : Want Message) → once (wants_sleep (Some w)) ≡ counted 0 (λ command. 0) 1 w
-  unfolding wants_sleep
-  sleeps_weight Clock = refl
-  sleeps_weight (Send message) = refl
-  sleeps_weight (Sleep length) = refl
-
   -- what a want gives
   abbrev pub gives_want : Want Message → Gave
   gives_want w = record { told = Ok (Told.Want (caller_want h w)); wants = Some w }
@@ -230,10 +198,10 @@ module _ (h : Head) where
   of_label (Setpoint m position) = (refl, refl)
 
   pub reads_weight : (w : Want Message) → once (wants_send reads_mode (Some w)) ≡ counted 0 mode_reads 0 w
-  reads_weight = weight reads_mode mode_reads (λ m. (of_label m).0)
+  reads_weight = message_weight h reads_mode mode_reads (λ m. (of_label m).0)
 
   pub writes_weight : (w : Want Message) → once (wants_send writes_mode (Some w)) ≡ counted 0 mode_writes 0 w
-  writes_weight = weight writes_mode mode_writes (λ m. (of_label m).1)
+  writes_weight = message_weight h writes_mode mode_writes (λ m. (of_label m).1)
 
   pub reads_count : (mode : ControlMode) (p : Switch) → once (mode_read motor (gives_want (switch_want mode p))) ≡ counted 0 mode_reads 0 (switch_want mode p)
   reads_count mode p = ap once (reads_alike mode p) ∙ reads_weight (switch_want mode p)

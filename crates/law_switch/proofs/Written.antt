@@ -29,7 +29,7 @@ use Rattle.law_calls.specs.Turns.{Gave, Turn, gaves, a_want, wants_send}
 use Rattle.law_switch.specs.Claim.{writes_mode, mode_write, EachSwitch}
 use Rattle.law_switch.specs.Written.{OfMode, AllOfMode, FirstReads, Written}
 use Rattle.law_switch.proofs.Demand.{each_switch}
-use Rattle.law_switch.proofs.Ran.{gave_want, gave_result, seen, onward_cases, Ran}
+use Rattle.law_switch.proofs.Ran.{gave_want, gave_result, seen, onward_cases, Ran, of_run}
 use Rattle.law_switch.proofs.Told.{Own, own, gives_want, writes_alike}
 
 module _ (h : Head) (mode : ControlMode) where
@@ -79,7 +79,9 @@ module _ (h : Head) (mode : ControlMode) where
 
 pub written : EachSwitch (λ motor mode first ts end. Written motor mode first ts)
 unfolding AllOfMode
-written = each_switch (λ motor mode first ts end. Written motor mode first ts) (λ h mode timeout ts end l how alone. record {
-  writes = (of_phase h mode timeout end Starting, all_of_mode h mode timeout end ts Starting l how);
-  first_reads = reading_first h mode timeout end ts l how;
-})
+written = each_switch (λ motor mode first ts end. Written motor mode first ts) (λ h mode timeout ts end x.
+    let how = of_run h mode timeout end ts Starting h.last x.steps in
+    record {
+      writes = (of_phase h mode timeout end Starting, all_of_mode h mode timeout end ts Starting h.last how);
+      first_reads = reading_first h mode timeout end ts h.last how;
+    })

@@ -1,4 +1,4 @@
--- Where each sleep of a switch moves the clock on, its readings are fine for the laws of its definition. Assumes nothing.
+-- Where each sleep of a run moves the clock on, its readings are fine for the laws of its definition. Assumes nothing.
 use Rattle.std.specs.Prelude.{None, Option, Some, Ok}
 use Prim.Native.Nat.{◌≤◌}
 use mathlib.Core.Path.{◌≡◌, refl, sym}
