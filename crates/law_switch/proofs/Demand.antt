@@ -99,13 +99,13 @@ module _ (h : Head) (mode : ControlMode) (timeout : Duration) (ts : List Turn) (
       record {
         reads = omega (arith, reads_as, within.sends_at_most Count.mode_reads trace.gs);
         writes = omega (arith, writes_as, within.sends_at_most Count.mode_writes trace.gs);
-        sends = most.sends;
+        sends = omega (arith, most.sends);
         reads_wanted = reads_as ∙ sym reads_wanted;
         writes_wanted = writes_as ∙ sym writes_wanted;
         sends_wanted = wanted.sends;
         sleeps_wanted = wanted.sleeps;
-        sleeps = most.sleeps;
-        ends = most.ends;
+        sleeps = λ m. omega (arith, most.sleeps m);
+        ends = λ m e. omega (arith, most.ends m e);
         answerable = alone.answerable;
         alone = alone.refuses;
         closes = alone.closes;
