@@ -7,6 +7,7 @@ use mathlib.Core.List.{[], ◌∷◌}
 use lib.Ieee.{Float, nan}
 use Rattle.std.specs.Prelude.{drop, eqb, get_or, Some, None, Ok, Err}
 use Rattle.motor_core.specs.Error.{number}
+use Rattle.motor_core.proofs.Turned.{clash}
 use Rattle.motor_core.specs.declared.error.Refusal.{Refusal}
 use Rattle.motor_core.specs.declared.error.Refusal.TheVariants.{Limit, MotorId, Reading, Register, ReadOnly, ValueType, Timeout, RunOpen, NotWanted, Mode, Query, Model}
 use Rattle.motor_core.specs.declared.model.Maxima.{Maxima}
@@ -57,19 +58,10 @@ refusal_back Mode = refl
 refusal_back Query = refl
 refusal_back Model = refl
 
+-- 0 is read back as a refusal whose number is 1
 no_zero : (r : Refusal) → number r ≡ 0 → ⊥
-no_zero Limit e = omega arith
-no_zero MotorId e = omega arith
-no_zero Reading e = omega arith
-no_zero Register e = omega arith
-no_zero ReadOnly e = omega arith
-no_zero ValueType e = omega arith
-no_zero Timeout e = omega arith
-no_zero RunOpen e = omega arith
-no_zero NotWanted e = omega arith
-no_zero Mode e = omega arith
-no_zero Query e = omega arith
-no_zero Model e = omega arith
+unfolding refusal
+no_zero r e = clash (sym e ∙ sym (ap number (refusal_back r)) ∙ ap (λ (n : ℕ). number (refusal n)) e)
 
 status : ℕ → StatusName
 status n = get_or (Disabled ∷ Enabled ∷ OverVoltage ∷ UnderVoltage ∷ OverCurrent ∷ MosOverTemp ∷ RotorOverTemp ∷ LostComm ∷ Overload ∷ []) n Unknown
