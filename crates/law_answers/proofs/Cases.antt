@@ -1,0 +1,59 @@
+-- The cases hold: the checker computes each call. Assumes nothing.
+use mathlib.Core.Path.{refl}
+use lib.Ieee.{le}
+use Rattle.motor_core.specs.Model.{limits_of, limit_accepted}
+use Rattle.motor_core.specs.declared.bus.CanFrame.{CanFrame}
+use Rattle.motor_core.specs.declared.model.PvTLimits.{PvTLimits}
+use Rattle.registers.specs.Registers.{registers, elem, known, info_of, access_of, data_type_of, writable, whole_number}
+use Rattle.registers.specs.Value.{of_type, type_of, value_of}
+use Rattle.protocol_frame.specs.Layout.{packed_onto, little_endian, bytes}
+use Rattle.protocol_frame.specs.Command.{frame_for}
+use Rattle.protocol_request.specs.Request.{register_read_data, addressed}
+use Rattle.protocol_received.specs.Received.{class, received, register_value}
+use Rattle.model_list.specs.Models.{limits_by_name}
+use Rattle.model_query.specs.Query.{queryable, query_accepted, answer}
+use Rattle.session.specs.Session.{fresh}
+use Rattle.session.specs.Start.{from_limits, from_model}
+use Rattle.session_frame.specs.Frame.{take_frame}
+use Rattle.session_answer.specs.Answer.{answer_run}
+use Rattle.session_call.specs.Step.{step}
+use Rattle.law_answers.specs.Cases.{Occurring}
+
+pub occurring : (l : PvTLimits) (f : CanFrame) → Occurring l f
+unfolding le limits_of limit_accepted registers elem known info_of access_of data_type_of writable whole_number of_type type_of frame_for packed_onto little_endian bytes register_read_data addressed class received register_value value_of limits_by_name queryable query_accepted answer fresh from_limits from_model take_frame answer_run step
+occurring l f = record {
+  limit = refl;
+  motor_id = refl;
+  frame_reading = refl;
+  earlier_frame = refl;
+  answer_reading = refl;
+  register = refl;
+  cached_register = refl;
+  read_only = refl;
+  other_type = refl;
+  timeout = refl;
+  run_open = refl;
+  no_run = refl;
+  other_kind = refl;
+  mode = refl;
+  query = refl;
+  model = refl;
+  model_first = refl;
+  limit_before_motor_id = refl;
+  run_open_before_mode = refl;
+  mode_before_timeout = refl;
+  register_before_timeout = refl;
+  read_only_before_type = refl;
+  no_run_before_reading = refl;
+  kind_before_reading = refl;
+  switched = refl;
+  at_the_ends = refl;
+  wants_clock = refl;
+  wants_send = refl;
+  wants_sleep = refl;
+  timed_out = refl;
+  send_failed = refl;
+  taken = refl;
+  done_with_value = refl;
+  patched = refl;
+}

@@ -1,0 +1,122 @@
+-- Each number occurs, and where a call meets two rows the order decides. `proofs/Cases.antt` has the proof.
+use Rattle.std.specs.Prelude.{ℕ, ◌+◌, ◌^◌, ◌≡◌, false, List, [], ◌∷◌, Ok, Err}
+use Rattle.std.specs.Float.{nan}
+use Rattle.motor_core.specs.declared.bus.CanFrame.{CanFrame}
+use Rattle.motor_core.specs.declared.model.Maxima.{Maxima}
+use Rattle.motor_core.specs.declared.model.PvTLimits.{PvTLimits}
+use Rattle.time.specs.Time.{millis}
+use Rattle.time.specs.declared.Duration.{Duration}
+use Rattle.model_query.specs.Query.{answer}
+use Rattle.protocol_request.specs.Request.{register_read_cmd}
+use Rattle.state_cache.specs.Cache.{cached_entry}
+use Rattle.run_want.specs.declared.Answer.TheVariants.{Reading, Send, Slept}
+use Rattle.run_want.specs.declared.SendError.TheVariants.{Failed}
+use Rattle.session.specs.Session.{fresh}
+use Rattle.session.specs.Start.{from_limits, from_model}
+use Rattle.session.specs.declared.Session.{Session}
+use Rattle.session_begin.specs.declared.Start.TheVariants.{GetRegisterU32, WriteRegisterU32, StoreParameters, EnsureControlMode}
+use Rattle.session_call.specs.Step.{step}
+use Rattle.session_call.specs.declared.Call.{Call}
+use Rattle.law_answers.specs.Answers.{whole, Items, Numbered, of_start, of_command, of_entry, of_query, of_call}
+
+-- no limit is accepted of these
+abbrev pub no_limits : Maxima
+no_limits = record { p_max = nan; v_max = nan; t_max = nan }
+
+-- a fresh session of motor 1, whose limits do not matter here
+abbrev pub session : PvTLimits → Session
+session limits = fresh 1 0x11 limits
+
+-- what a call on it says after others
+abbrev pub left_by : Session → List Call → Session
+left_by s [] = s
+left_by s (c ∷ cs) = left_by (step s c).session cs
+
+abbrev pub said_after : PvTLimits → List Call → Call → Numbered Items
+said_after limits cs c = of_call (step (left_by (session limits) cs) c).told
+
+abbrev pub number_after : PvTLimits → List Call → Call → ℕ
+number_after limits cs c = (said_after limits cs c).number
+
+abbrev pub values_after : PvTLimits → List Call → Call → Items
+values_after limits cs c = (said_after limits cs c).values
+
+abbrev pub reading : ℕ → Call
+reading t = Call.Answer (Reading (record { 0 = t }))
+
+abbrev pub beyond : ℕ
+beyond = 2 ^ 62 + 1
+
+abbrev pub too_long : Duration
+too_long = record { 0 = 60_000_000_001 }
+
+abbrev pub switch : ℕ → Duration → Call
+switch mode timeout = Call.Start (EnsureControlMode mode timeout)
+
+abbrev pub switching : List Call
+switching = switch 1 (millis 400) ∷ []
+
+abbrev pub frame : CanFrame → ℕ → Call
+frame f t = Call.Frame f (record { 0 = t })
+
+-- a read of register 10, its answers, and the reply that the register holds 1
+abbrev pub read_ten : Call
+read_ten = Call.Start (GetRegisterU32 10 (millis 100))
+
+abbrev pub sent : Call
+sent = Call.Answer (Send (Ok tt))
+
+abbrev pub slept : Call
+slept = Call.Answer Slept
+
+abbrev pub ten_is_one : CanFrame
+ten_is_one = record {
+  arbitration_id = 0x11;
+  «data» = 0x11 ∷ 0x0F ∷ 0x33 ∷ 0x0A ∷ 0x01 ∷ 0x00 ∷ 0x00 ∷ 0x00 ∷ [];
+  dlc = 8;
+  is_extended = false;
+}
+
+-- its calls up to the sleep
+abbrev pub asked : List Call
+asked = read_ten ∷ reading 5 ∷ sent ∷ []
+
+pub record Occurring (l : PvTLimits) (f : CanFrame) : Type 0 where
+  -- each number
+  pub limit : (of_start (from_limits 1 0x11 no_limits)).number ≡ 1
+  pub motor_id : (of_command (register_read_cmd 0xFD00 10)).number ≡ 2
+  pub frame_reading : number_after l [] (frame f beyond) ≡ 3
+  pub earlier_frame : number_after l (frame f 5 ∷ []) (frame f 4) ≡ 3
+  pub answer_reading : number_after l switching (reading beyond) ≡ 3
+  pub register : number_after l [] (Call.Start (GetRegisterU32 37 (millis 100))) ≡ 4
+  pub cached_register : (of_entry (cached_entry [] 37)).number ≡ 4
+  pub read_only : number_after l [] (Call.Start (WriteRegisterU32 13 1)) ≡ 5
+  pub other_type : number_after l [] (Call.Start (WriteRegisterU32 0 1)) ≡ 6
+  pub timeout : number_after l [] (switch 1 too_long) ≡ 7
+  pub run_open : number_after l switching (Call.Start StoreParameters) ≡ 8
+  pub no_run : number_after l [] (reading 1) ≡ 9
+  pub other_kind : number_after l switching (Call.Answer Slept) ≡ 9
+  pub mode : number_after l [] (switch 9 (millis 400)) ≡ 10
+  pub query : (of_query (answer (record { p = nan; v = nan; t = nan }) [])).number ≡ 11
+  pub model : (of_start (from_model 1 0x11 [] [])).number ≡ 12
+  -- two rows are met
+  pub model_first : (of_start (from_model 0xFD00 0x11 [] [])).number ≡ 12
+  pub limit_before_motor_id : (of_start (from_limits 0xFD00 0x11 no_limits)).number ≡ 1
+  pub run_open_before_mode : number_after l switching (switch 9 (millis 400)) ≡ 8
+  pub mode_before_timeout : number_after l [] (switch 9 too_long) ≡ 10
+  pub register_before_timeout : number_after l [] (Call.Start (GetRegisterU32 37 too_long)) ≡ 4
+  pub read_only_before_type : number_after l [] (Call.Start (WriteRegisterU32 11 1)) ≡ 5
+  pub no_run_before_reading : number_after l [] (reading beyond) ≡ 9
+  pub kind_before_reading : number_after l (read_ten ∷ reading 5 ∷ []) (reading beyond) ≡ 9
+  -- nothing is turned back
+  pub switched : number_after l [] (switch 1 (millis 400)) ≡ 0
+  pub at_the_ends : number_after l (switch 4 (millis 60_000) ∷ []) (reading (2 ^ 62)) ≡ 0
+  -- what a read says, a call at a time
+  pub wants_clock : values_after l [] read_ten ≡ whole 0 ∷ whole 0 ∷ []
+  pub wants_send : values_after l (read_ten ∷ []) (reading 5) ≡ whole 0 ∷ whole 1 ∷ whole 0x7FF ∷ whole 0x0100_330A_0000_0000 ∷ []
+  pub wants_sleep : values_after l asked (reading 6) ≡ whole 0 ∷ whole 2 ∷ whole 2_000_000 ∷ []
+  pub timed_out : values_after l asked (reading 100_000_005) ≡ whole 1 ∷ whole 2 ∷ []
+  pub send_failed : values_after l (read_ten ∷ reading 5 ∷ []) (Call.Answer (Send (Err Failed))) ≡ whole 1 ∷ whole 5 ∷ []
+  pub taken : values_after l asked (frame ten_is_one 6) ≡ []
+  pub done_with_value : values_after l (read_ten ∷ reading 5 ∷ frame ten_is_one 6 ∷ []) sent ≡ whole 1 ∷ whole 0 ∷ whole 2 ∷ whole 1 ∷ []
+  pub patched : values_after l [] (Call.Patch 1 30 40) ≡ whole 0 ∷ []
