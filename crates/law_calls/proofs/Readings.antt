@@ -27,8 +27,8 @@ use Rattle.session.specs.declared.Head.{Head}
 use Rattle.session.specs.declared.Session.{Session}
 use Rattle.session_frame.proofs.Effects as Frame
 use Rattle.session_frame.proofs.Outcomes.{taken_reading}
-use Rattle.session_frame.specs.Effects as Effects
-use Rattle.session_frame.specs.Effects.{if_taken, state_taken, record_with, reported}
+use Rattle.session_frame.proofs.Brought as Brought
+use Rattle.session_frame.proofs.Brought.{if_taken, state_taken, record_with, reported}
 use Rattle.session_frame.specs.Frame.{FrameOutcome, frame_outcome, take_frame}
 use Rattle.session_answer.proofs.Effects.{entry, answer_cases, answer_keeps, answer_last}
 use Rattle.session_answer.specs.Answer.{with_step, answer_run}
@@ -82,7 +82,7 @@ module _ (s : Session) where
   unfolding accepted_reading accepted_by take_frame
   frame_reads f t = go (frame_outcome s.head f t) refl (Frame.last_after_frame s f t)
     where
-      go : (o : FrameOutcome) → frame_outcome s.head f t ≡ o → (take_frame s f t).session.head.last ≡ Effects.last_with o t s.head.last → Next s.head.last (accepted_by (Returned.Frame o) t) × ((take_frame s f t).session.head.last ≡ last_with s.head.last (accepted_by (Returned.Frame o) t))
+      go : (o : FrameOutcome) → frame_outcome s.head f t ≡ o → (take_frame s f t).session.head.last ≡ Brought.last_with o t s.head.last → Next s.head.last (accepted_by (Returned.Frame o) t) × ((take_frame s f t).session.head.last ≡ last_with s.head.last (accepted_by (Returned.Frame o) t))
       go (Ok taken) e last = (taken_reading s.head f t e, last)
       go (Err n) e last = (tt, last)
 
@@ -162,7 +162,7 @@ module _ (h : Head) (s : Session) (sound : Sound h s) (stamped : Stamped s) wher
       go (Ok taken) e =
           let after = (take_frame s f t).session in
           let forward = (taken_reading s.head f t e).0 in
-          let last : after.head.last ≡ t = Frame.last_after_frame s f t ∙ ap (λ (o : FrameOutcome). Effects.last_with o t s.head.last) e in
+          let last : after.head.last ≡ t = Frame.last_after_frame s f t ∙ ap (λ (o : FrameOutcome). Brought.last_with o t s.head.last) e in
           let place_stamps : (place : Place) → (stamp_of (held s place) ≤ stamp_of (held after place)) × (stamp_of (held after place) ≤ after.head.last.0) = λ place.
               let is : held after place ≡ replaced (held s place) (frame_brings place f t (Returned.Frame (Ok tt))) =
                   frame_held h s sound f t place ∙ ap (λ (o : FrameOutcome). replaced (held s place) (frame_brings place f t (Returned.Frame o))) (Frame.outcome_of_frame s f t ∙ e) in

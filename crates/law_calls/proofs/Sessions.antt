@@ -22,7 +22,7 @@ use Rattle.session.specs.Session.{patch}
 use Rattle.session.specs.declared.Head.{Head}
 use Rattle.session.specs.declared.Session.{Session}
 use Rattle.session_frame.proofs.Effects as Frame
-use Rattle.session_frame.specs.Effects.{if_taken, of_register, slot_with}
+use Rattle.session_frame.proofs.Brought.{if_taken, of_register, slot_with}
 use Rattle.session_frame.specs.Frame.{FrameOutcome, frame_outcome, reply_of, ack_of, says, take_frame}
 use Rattle.session_answer.proofs.Effects.{answer_keeps, answer_last, answer_refused}
 use Rattle.session_answer.specs.Answer.{entry_at, answer_run}

@@ -24,7 +24,7 @@ use Rattle.protocol_status.specs.Status.{status_name}
 use Rattle.state_cache.specs.Cache.{slot_of}
 use Rattle.state_cache.specs.declared.Entry.TheVariants.{Held}
 use Rattle.session.specs.Session.{fresh}
-use Rattle.session_frame.specs.Effects.{if_taken, of_register, slot_with, record_with}
+use Rattle.session_frame.proofs.Brought.{if_taken, of_register, slot_with, record_with}
 use Rattle.session_frame.specs.Frame.{FrameOutcome, frame_outcome, take_frame}
 use Rattle.session_frame.proofs.Effects.{reply_after_frame, record_after_frame}
 use Rattle.session_frame.proofs.Outcomes.{is_taken}

@@ -63,7 +63,7 @@ use Rattle.state_feedback.specs.declared.FeedbackSnapshot.{FeedbackSnapshot}
 use Rattle.motor_core.specs.AndThen.{and_then}
 use Rattle.run_machine.specs.declared.Machine.{Machine}
 use Rattle.run_machine.specs.declared.Machine.TheVariants.{GetRegister, WriteRegister, RequestFreshState, StoreParameters, EnsureControlMode}
-use Rattle.law_runs.specs.Budget.{Budget, clearing, stepped_left, weigh, ask_left, asked_left, read_left, state_left, disabling, store_left, stored_left, ack_left, acked_left, more_tries, write_left, written_left, mode_reading, holding, finishing, more_rounds, rounds, preparing, unfound, switch_left, switched_left, machine_left, left}
+use Rattle.law_runs.proofs.Weighing.{Budget, clearing, stepped_left, weigh, ask_left, asked_left, read_left, state_left, disabling, store_left, stored_left, ack_left, acked_left, more_tries, write_left, written_left, mode_reading, holding, finishing, more_rounds, rounds, preparing, unfound, switch_left, switched_left, machine_left, left}
 use Rattle.law_runs.specs.Clock.{Clocked, known_after, fine, AllFine}
 use Rattle.law_runs.specs.Systems.{still, waiting, phase_of, acking, running}
 use Rattle.law_runs.specs.Trace.{Given, System, label, wants_from, total}

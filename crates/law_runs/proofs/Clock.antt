@@ -15,7 +15,7 @@ use Rattle.run_want.specs.declared.message.Message.{Message}
 use Rattle.run_wait.specs.Wait.{late, poll_interval}
 use Rattle.run_wait.specs.declared.Wait.{Wait}
 use Rattle.run_wait.specs.declared.Wait.TheVariants.{Checking, Napping}
-use Rattle.law_runs.specs.Budget.{Budget}
+use Rattle.law_runs.proofs.Weighing.{Budget}
 use Rattle.law_runs.specs.Clock.{Clocked, known_after, fine, AllFine, Clock, heard, napped, Moved, Later, moving, polls}
 use Rattle.law_runs.specs.Trace.{Given, System, Label}
 

@@ -13,14 +13,17 @@ use Rattle.run_wait.specs.declared.Wait.TheVariants.{Checking}
 use Rattle.run_write.specs.declared.ack.AckWait.TheVariants as AckWait
 use Rattle.run_machine.specs.declared.Machine.{Machine}
 use Rattle.law_runs.specs.Bounds.{Within, Bounds}
-use Rattle.law_runs.specs.Budget.{machine_left, more_tries, more_rounds}
+use Rattle.law_runs.proofs.Weighing.{machine_left, more_tries, more_rounds}
 use Rattle.law_runs.specs.Clock.{unheard}
 use Rattle.law_runs.specs.Systems.{running}
-use Rattle.law_runs.specs.Trace.{Given, System, Label, wants_from, after, any_want, total}
+use Rattle.law_runs.specs.Trace.{Given, System, Label, wants_from, after, counted, total}
 use Rattle.law_runs.proofs.Budget.{wait_bounded, ack_bounded, run_bounded}
 use Rattle.law_runs.proofs.Clock.{by_message, all_fine, by_clock}
 
 -- A machine that has been answered as often as it can want has ended.
+abbrev any_want : Want Message → ℕ
+any_want = counted 1 (λ command. 1) 1
+
 one_want : (w : Want Message) → any_want w ≡ 1
 one_want Clock = refl
 one_want (Send message) = refl

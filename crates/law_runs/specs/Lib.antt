@@ -1,5 +1,4 @@
 pub mod Bounds
-pub mod Budget
 pub mod Clock
 pub mod Ends
 pub mod Systems

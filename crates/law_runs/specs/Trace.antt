@@ -59,9 +59,6 @@ counted clock send sleep (Sleep length) = sleep
 abbrev pub one_sleep : Want Message → ℕ
 one_sleep = counted 0 (λ command. 0) 1
 
-abbrev pub any_want : Want Message → ℕ
-any_want = counted 1 (λ command. 1) 1
-
 unfoldable pub total : (Want Message → ℕ) → List (Want Message) → ℕ
 total f [] = 0
 total f (w ∷ ws) = f w + total f ws

@@ -23,7 +23,8 @@ use Rattle.run_machine.specs.declared.Outcome.{Outcome}
 use Rattle.session.specs.Session.{with_last, with_head, with_run}
 use Rattle.session.specs.declared.Head.{Head}
 use Rattle.session.specs.declared.Session.{Session}
-use Rattle.session_answer.specs.Effects.{Follows, ToldTruly, Unchanged}
+use Rattle.session_answer.specs.Effects.{Unchanged}
+use Rattle.session_answer.proofs.Follows.{Follows, ToldTruly}
 use Rattle.session_step.specs.Parts.{answer_accepted, with_reading, stepped, answer_step}
 use Rattle.session_answer.specs.Answer.{run_place, entry_at, with_step, answer_run}
 use Rattle.session_step.specs.declared.AnswerStep.{AnswerStep}

@@ -4,7 +4,8 @@ use Rattle.std.specs.Prelude.{Option, Some, None, Result, Ok, Err}
 use Rattle.motor_core.specs.declared.error.Refusal.{Refusal}
 use Rattle.run_machine.specs.declared.Machine.{Machine}
 use Rattle.session.specs.declared.Session.{Session}
-use Rattle.session_answer.specs.Effects.{ToldTruly, Unchanged}
+use Rattle.session_answer.specs.Effects.{Unchanged}
+use Rattle.session_answer.proofs.Follows.{ToldTruly}
 use Rattle.session_answer.specs.Answer.{AfterCall}
 use Rattle.session_answer.proofs.Effects.{untouched}
 use Rattle.session_begin.specs.Begin.{machine_of, start_step, with_opened, begin}

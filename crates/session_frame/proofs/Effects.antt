@@ -29,7 +29,7 @@ use Rattle.state_cache.specs.Cache.{slot_of}
 use Rattle.session.specs.declared.Session.{Session}
 use Rattle.state_cache.specs.declared.Entry.{Entry}
 use Rattle.state_cache.specs.declared.Entry.TheVariants.{Empty, Held}
-use Rattle.session_frame.specs.Effects.{reported, if_taken, reply_taken, ack_taken, state_taken, of_register, slot_with, record_with, last_with}
+use Rattle.session_frame.proofs.Brought.{reported, if_taken, reply_taken, ack_taken, state_taken, of_register, slot_with, record_with, last_with}
 use Rattle.session_frame.specs.Frame.{FrameOutcome, frame_outcome, feedback_after, reply_of, ack_of, stored, with_received, says, take_by, take_frame}
 use Rattle.session_frame.proofs.Outcomes.{taken_reading}
 

@@ -24,7 +24,7 @@ use Rattle.session_frame.specs.Frame.{FrameOutcome, AfterFrame, frame_outcome, h
 use Rattle.session_frame.specs.declared.FrameStep.{FrameStep}
 use Rattle.state_cache.specs.declared.Entry.{Entry}
 use Rattle.state_cache.specs.declared.Place.{Place}
-use Rattle.session_lent.specs.Lent.{put_kept, put_back}
+use Rattle.session_lent.proofs.PutBack.{put_kept, put_back}
 use Rattle.session.specs.Session.{with_head, with_replies, with_acks}
 
 -- a known register's place is its number

@@ -1,1 +1,2 @@
 pub mod ByParts
+pub mod PutBack

@@ -1,4 +1,4 @@
--- What a frame's step leaves, put back into a session. Definitions only.
+-- What a frame's step leaves, put back into a session. Assumes nothing.
 use Rattle.std.specs.Prelude.{set, Option, Some, None}
 use Rattle.state_cache.specs.Cache.{slot_index}
 use Rattle.session.specs.Session.{with_head, with_replies, with_acks}

@@ -1,4 +1,4 @@
--- What each phase may still want, weighed. Definitions only.
+-- What each phase may still want, weighed. Assumes nothing.
 use Rattle.std.specs.Prelude.{ℕ, zero, suc, ◌+◌, ◌≤◌, ◌≡◌, false, Option, Result, Ok, Err}
 use Rattle.state_feedback.specs.declared.MotorFeedbackState.{MotorFeedbackState}
 use Rattle.run_want.specs.Step.{Stepped}

@@ -1,4 +1,4 @@
--- What a frame brings to a session, for laws and claims that look at one register or at the record. Definitions only.
+-- What a frame brings to a session, for laws that look at one register or at the record. Assumes nothing.
 use Rattle.std.specs.Prelude.{ℕ, cond, eqb, Ok, Err, None, Option, Some}
 use Rattle.motor_core.specs.declared.bus.CanFrame.{CanFrame}
 use Rattle.time.specs.declared.Instant.{Instant}
