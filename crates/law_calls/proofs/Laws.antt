@@ -152,6 +152,10 @@ own_sound h s sound = record { motor_id = refl; feedback_id = refl; limits = ref
 pub laws : Laws
 unfolding step
 laws = record {
+  starts = λ s b. refl;
+  answers = λ s a. refl;
+  frames = λ s f reading. refl;
+  patches = λ s status mos rotor. refl;
   refusals = refused_leaves;
   leaves = leaves;
   sessions_joined = sessions_joined;

@@ -12,11 +12,13 @@ use Rattle.run_want.specs.declared.Answer.{Answer}
 use Rattle.run_machine.specs.Machine.{RunResult}
 use Rattle.run_machine.specs.declared.Machine.{Machine}
 use Rattle.session.specs.declared.Session.{Session}
-use Rattle.session_answer.specs.Answer.{entry_at}
+use Rattle.session.specs.Session.{patch}
+use Rattle.session_frame.specs.Frame.{take_frame}
+use Rattle.session_answer.specs.Answer.{entry_at, answer_run}
 use Rattle.session_answer.specs.Effects.{Unchanged}
-use Rattle.session_begin.specs.Begin.{machine_of}
+use Rattle.session_begin.specs.Begin.{machine_of, begin}
 use Rattle.session_begin.specs.declared.Start.{Start}
-use Rattle.session_call.specs.Step.{step}
+use Rattle.session_call.specs.Step.{returning, step}
 use Rattle.session_call.specs.declared.Call.{Call}
 use Rattle.session_call.specs.declared.Returned.{Returned}
 use Rattle.law_runs.specs.Bounds.{Within}
@@ -169,6 +171,11 @@ pub record OfRun (s : Session) (start : Start) (first : Gave) (ts : List Turn) (
   pub within : (sends : (Label → ℕ) → ℕ) (sleeps answers : ℕ) → Within machine sends sleeps answers → AtMost first ts (sends (λ command. 1)) sleeps answers
 
 pub record Laws : Type 0 where
+  -- what each entry promises is a call of the list: a run's start, an answer, a frame by value or lent, a patch
+  pub starts : (s : Session) (b : Start) → step s (Call.Start b) ≡ returning Returned.Run (begin s b)
+  pub answers : (s : Session) (a : Answer) → step s (Call.Answer a) ≡ returning Returned.Run (answer_run s a)
+  pub frames : (s : Session) (f : CanFrame) (reading : Instant) → step s (Call.Frame f reading) ≡ returning Returned.Frame (take_frame s f reading)
+  pub patches : (s : Session) (status mos rotor : ℕ) → step s (Call.Patch status mos rotor) ≡ returning Returned.Patch (patch s status mos rotor)
   -- a refused call leaves the session that it got, and every call what is not its own
   pub refusals : (s : Session) (c : Call) → IsRefusal (step s c).told → (step s c).session ≡ s
   pub leaves : (s : Session) (c : Call) → Leaves c s (step s c).session

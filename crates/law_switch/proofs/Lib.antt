@@ -5,3 +5,4 @@ pub mod Success
 pub mod Told
 pub mod Demand
 pub mod Written
+pub mod Worked

@@ -1,2 +1,3 @@
 pub mod Claim
+pub mod Worked
 pub mod Written

@@ -1,0 +1,89 @@
+-- A mode switch worked out: motor 1 is asked for its mode and says 3, by a frame that comes before its send is answered. A reply of another mode came before the switch; with that alone it goes on. Definitions only.
+use Rattle.std.specs.Prelude.{ℕ, ◌≡◌, false, List, [], ◌∷◌, length, None, Some, Ok}
+use Rattle.std.specs.Float.{fin}
+use Rattle.std.specs.Prelude.{pos}
+use Rattle.motor_core.specs.Model.{from_maxima}
+use Rattle.motor_core.specs.declared.model.Maxima.{Maxima}
+use Rattle.time.specs.Time.{millis}
+use Rattle.registers.specs.declared.RegisterValue.TheVariants.{UInt32}
+use Rattle.state_cache.specs.declared.Entry.{Entry}
+use Rattle.state_cache.specs.declared.Entry.TheVariants.{Empty, Held}
+use Rattle.state_cache.specs.declared.Place.TheVariants.{Reply}
+use Rattle.run_want.specs.declared.Answer.TheVariants.{Reading, Send}
+use Rattle.run_want.specs.declared.Want.TheVariants as Wanted
+use Rattle.run_machine.specs.declared.Outcome.TheVariants.{Done}
+use Rattle.session.specs.Session.{fresh}
+use Rattle.session.specs.declared.Session.{Session}
+use Rattle.session_begin.specs.declared.Start.TheVariants.{EnsureControlMode}
+use Rattle.session_call.specs.Step.{step}
+use Rattle.session_call.specs.declared.Call.{Call}
+use Rattle.session_call.specs.declared.Returned.TheVariants as Returned
+use Rattle.session_step.specs.declared.Told.TheVariants as Told
+use Rattle.law_calls.specs.Calls.{Fresh, event, events, session_after}
+use Rattle.law_calls.specs.Places.{nothing, seen_after}
+use Rattle.law_calls.specs.Turns.{Gave, Turn, turns_after, result, gaves, count}
+use Rattle.law_switch.specs.Claim.{mode_read, mode_write}
+
+abbrev pub maxima : Maxima
+maxima = record { p_max = fin false 1 (pos 0); v_max = fin false 1 (pos 0); t_max = fin false 1 (pos 0) }
+
+abbrev pub session : Session
+session = fresh 1 0x11 (from_maxima maxima)
+
+-- the motor's reply that register 10 holds a number, with its reading
+abbrev pub says_mode : ℕ → ℕ → Call
+says_mode mode reading = Call.Frame (record {
+  arbitration_id = 0x11;
+  «data» = 0x01 ∷ 0x00 ∷ 0x33 ∷ 0x0A ∷ mode ∷ 0x00 ∷ 0x00 ∷ 0x00 ∷ [];
+  dlc = 8;
+  is_extended = false;
+}) (record { 0 = reading })
+
+abbrev pub clock : ℕ → Call
+clock reading = Call.Answer (Reading (record { 0 = reading }))
+
+abbrev pub sent : Call
+sent = Call.Answer (Send (Ok tt))
+
+abbrev pub before : List Call
+before = says_mode 1 4 ∷ []
+
+abbrev pub begins : Call
+begins = Call.Start (EnsureControlMode 3 (millis 400))
+
+abbrev pub asked : List Call
+asked = clock 5 ∷ clock 5 ∷ clock 5 ∷ []
+
+abbrev pub told : List Call
+told = clock 5 ∷ clock 5 ∷ clock 5 ∷ says_mode 3 6 ∷ sent ∷ []
+
+abbrev pub unheard : List Call
+unheard = clock 5 ∷ clock 5 ∷ clock 5 ∷ sent ∷ []
+
+-- its turns, with these calls after its start
+abbrev pub begun : Session
+begun = (step (session_after session before) begins).session
+
+abbrev pub first : Gave
+first = record { told = Ok (Told.Want Wanted.Clock); wants = (event (session_after session before) begins).wants }
+
+abbrev pub turns_with : List Call → List Turn
+turns_with after = turns_after first.told (seen_after nothing (events session before)) (events begun after)
+
+abbrev pub seen_last : List Turn → Entry
+seen_last [] = Empty
+seen_last (t ∷ []) = t.sees (Reply 10)
+seen_last (t ∷ u ∷ ts) = seen_last (u ∷ ts)
+
+pub record Worked : Type 0 where
+  pub starts : Fresh 1 0x11 session
+  pub accepted : (event (session_after session before) begins).returned ≡ Returned.Run first.told
+  pub asks : count (mode_read 1) (first ∷ gaves (turns_with asked)) ≡ 1
+  -- it finds the mode
+  pub four_turns : length (turns_with told) ≡ 4
+  pub done : result first (turns_with told) ≡ Some (Ok Done)
+  pub sees : seen_last (turns_with told) ≡ Held (UInt32 3) (record { 0 = 6 })
+  pub no_write : count (mode_write 1) (first ∷ gaves (turns_with told)) ≡ 0
+  -- it sees the earlier reply, which holds another mode, and is not done
+  pub sees_earlier : seen_last (turns_with unheard) ≡ Held (UInt32 1) (record { 0 = 4 })
+  pub not_done : result first (turns_with unheard) ≡ None
