@@ -39,6 +39,8 @@ pub enum Outcome {
 
 pub type RunResult = Result<Outcome, Failure>;
 
+// Inlined, as the wants and steps below it, no part of a machine is copied that its run does not use.
+#[inline(always)]
 pub fn machine_want(machine: Machine) -> Want<Message>
     ensures { result ≡ Spec.machine_want machine }
 {

@@ -35,6 +35,7 @@ pub type AfterStep = After<Returned>;
 
 // Makes a call on the session that is lent.
 #[tactic(auto, unfolding(crate::specs::Step::step))]
+#[inline(always)]
 pub fn step_lent(session: &mut Session, call: Call) -> Returned
     ensures told { result ≡ (Spec.step session.old call).told }
     ensures session { session.new ≡ (Spec.step session.old call).session }

@@ -89,6 +89,8 @@ fn stage_want(mode: ControlMode, progress: Progress, stage: Stage) -> Want<Messa
     }
 }
 
+// Inlined for the reason at `machine_want`.
+#[inline(always)]
 pub fn switch_want(mode: ControlMode, switch: Switch) -> Want<Message>
     ensures { result ≡ Spec.switch_want mode switch }
 {
