@@ -39,7 +39,7 @@ pub enum Outcome {
 
 pub type RunResult = Result<Outcome, Failure>;
 
-// Inlined, as the wants and steps below it, no part of a machine is copied that its run does not use.
+// Inlined, with the wants of a switch and the step of a write, so that an answer copies no machine for a call.
 #[inline(always)]
 pub fn machine_want(machine: Machine) -> Want<Message>
     ensures { result ≡ Spec.machine_want machine }
