@@ -33,7 +33,7 @@ pub enum Returned {
 
 pub type AfterStep = After<Returned>;
 
-// Makes a call on the session that is lent.
+// Makes a call on the session that is lent. Inlined, so that which call it is need not be asked where it is known.
 #[tactic(auto, unfolding(crate::specs::Step::step))]
 #[inline(always)]
 pub fn step_lent(session: &mut Session, call: Call) -> Returned

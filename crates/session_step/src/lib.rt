@@ -35,7 +35,7 @@ pub struct AnswerStep {
     pub run: Option<Machine>,
 }
 
-// A want in the caller's terms: a send by its frame.
+// A want in the caller's terms: a send by its frame. Inlined for the reason at `machine_want`.
 #[inline(always)]
 pub fn caller_want(head: Head, want: Want<Message>) -> Wanted
     ensures { result ≡ Spec.caller_want head want }
