@@ -23,6 +23,10 @@ LC_ALL=C sed 's/^frame /frame-lent /' lines.script runs.script mode.script >> "$
 add 6 1400 sessions
 add 7 2000 runs
 add 8 3000 mode
+# The function over all calls; then runs again with every start, answer and patch by it.
+cat lent.script >> "$list/stdin"
+may_be_lent='get-u32|get-f32|write-u32|write-f32|fresh-state|store|mode|clock|sent|send-timeout|send-failed|slept|patch'
+LC_ALL=C sed -E "s/^($may_be_lent)( |\$)/lent &/" runs.script mode.script >> "$list/stdin"
 add 4 700 bad
 printf '# The last line has no newline.\nregister 10' >> "$list/stdin"
 "$oracle" run < "$list/stdin" > "$list/stdout"

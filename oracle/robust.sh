@@ -53,6 +53,7 @@ many() { # COUNT: so many times lines that are as long as a line may be, or one 
     awk -v count="$1" 'function zeros(n) { return sprintf("%0" n "d", 0) }
         BEGIN { for (i = 0; i < count; i++) for (n = 4094; n <= 4097; n++) {
             print "register " zeros(n - 11) "10"
+            print "lent clock " zeros(n - 11)
             print "#" zeros(n - 1)
             print "start-model " zeros(n - 16) " 1 2"
             print zeros(n) } }'

@@ -55,7 +55,10 @@ fn main() {
         taken(r, &name(" replies"), inputs::reply, taking::take);
         taken(r, &name(", a third of each class"), inputs::mixed, taking::take);
     }
-    taken(r, "a register read", inputs::feedback, running::reads);
-    taken(r, "a confirmed write", inputs::feedback, running::writes);
-    taken(r, "a mode switch", inputs::feedback, running::switches);
+    for how in ["lent", "by value"] {
+        let name = |what| format!("a {what}, {how}");
+        taken(r, &name("register read"), inputs::feedback, running::reads);
+        taken(r, &name("confirmed write"), inputs::feedback, running::writes);
+        taken(r, &name("mode switch"), inputs::feedback, running::switches);
+    }
 }

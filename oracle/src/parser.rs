@@ -13,6 +13,8 @@
 //!   does not fit 64 bits, or does not fit its field, makes a bad line.
 //! - A flag is a number with the value 0 or 1, so `0x1` and `00` are flags too.
 //! - A float is a number of 32 bits, any pattern.
+//! - The word `lent` and a space before the start of a run, an answer or a patch change nothing here;
+//!   before any other line they make a bad line, and so does `lent` twice.
 //! - A NAME is any word: one byte or more, none of them a space, tab, carriage return or newline. It
 //!   need not be text.
 //! - Bad lines are found before anything else is asked, so also before `no session` and refusals.
@@ -138,11 +140,31 @@ pub fn parse(line: &[u8]) -> Line<'_> {
     if line.iter().any(|byte| matches!(byte, b'\t' | b'\r')) {
         return Line::Bad;
     }
-    let mut words = Words { rest: Some(line) };
+    let (lent, rest) = match line.strip_prefix(b"lent ") {
+        Some(rest) => (true, rest),
+        None => (false, line),
+    };
+    let mut words = Words { rest: Some(rest) };
     match call(&mut words) {
-        Some(call) if words.rest.is_none() => Line::Call(call),
+        Some(call) if words.rest.is_none() && (!lent || call.may_be_lent()) => Line::Call(call),
         _ => Line::Bad,
     }
+}
+
+impl Call<'_> {
+    /// Whether the word `lent` may stand before it.
+    fn may_be_lent(&self) -> bool {
+        use SessionCall::{Answer, Patch, Start};
+        matches!(self, Call::Session(Start(_) | Answer(_) | Patch { .. }))
+    }
+}
+
+/// Whether a line is a call before which `lent` may be put.
+pub fn may_be_lent(line: &[u8]) -> bool {
+    let Line::Call(call) = parse(line) else {
+        return false;
+    };
+    call.may_be_lent() && !line.starts_with(b"lent ")
 }
 
 fn call<'a>(words: &mut Words<'a>) -> Option<Call<'a>> {
@@ -419,6 +441,71 @@ mod tests {
     }
 
     #[test]
+    fn lent() {
+        for good in [
+            "get-u32 10 1",
+            "get-f32 0 1",
+            "write-u32 10 1",
+            "write-f32 0 0",
+            "fresh-state 1",
+            "store",
+            "mode 1 1",
+            "clock 0x5",
+            "sent",
+            "send-timeout",
+            "send-failed",
+            "slept",
+            "patch 11 80 90",
+        ] {
+            assert!(may_be_lent(good.as_bytes()), "{good}");
+            let lent = format!("lent {good}");
+            assert!(!is_bad(lent.as_bytes()), "{lent}");
+            assert!(!may_be_lent(lent.as_bytes()), "{lent}");
+            let twice = format!("lent {lent}");
+            assert!(is_bad(twice.as_bytes()), "{twice}");
+            let apart = format!("lent  {good}");
+            assert!(is_bad(apart.as_bytes()), "{apart}");
+        }
+        for good in [
+            "start-model 4310 1 2",
+            "start-limits 1 2 3 4 5",
+            "frame 1 2 3 8 0",
+            "frame-lent 1 2 3 8 0",
+            "accepts 2 3 8 0",
+            "session",
+            "vel 1 0",
+            "sort 0",
+            "register 10",
+            "suggest 1 2 3 4",
+        ] {
+            assert!(!is_bad(good.as_bytes()), "{good}");
+            assert!(!may_be_lent(good.as_bytes()), "{good}");
+            let lent = format!("lent {good}");
+            assert!(is_bad(lent.as_bytes()), "{lent}");
+        }
+        for bad in [
+            "lent",
+            "lent ",
+            "lent #",
+            "lent help",
+            "lent clock",
+            "lent clock 5 6",
+            "lent clock x",
+            "lent sent ",
+            " lent sent",
+            "Lent sent",
+            "lent\tsent",
+            "lentsent",
+            "lent-sent",
+            "sent lent",
+            "clock lent 5",
+        ] {
+            assert!(is_bad(bad.as_bytes()), "{bad:?}");
+            assert!(!may_be_lent(bad.as_bytes()), "{bad:?}");
+        }
+    }
+
+    #[test]
     fn long_lines() {
         let padded = |length: usize, first: &str| {
             let mut line = first.as_bytes().to_vec();
@@ -427,6 +514,8 @@ mod tests {
         };
         assert!(!is_bad(&padded(LONGEST, "register ")));
         assert!(is_bad(&padded(LONGEST + 1, "register ")));
+        assert!(!is_bad(&padded(LONGEST, "lent clock ")));
+        assert!(is_bad(&padded(LONGEST + 1, "lent clock ")));
         assert!(matches!(parse(&padded(LONGEST, "#")), Line::PassedOver));
         assert!(is_bad(&padded(LONGEST + 1, "#")));
     }

@@ -2,7 +2,7 @@
 
 use crate::oracle::Oracle;
 use crate::random::Recipe;
-use crate::{lines, random};
+use crate::{lines, parser, random};
 
 /// Runs lines of the form `CALL => ANSWER`; lines without an arrow are passed over.
 fn check(script: &str) {
@@ -239,6 +239,28 @@ fn mode_switch() {
 }
 
 #[test]
+fn lent_calls() {
+    check(
+        "lent clock 5 => no session
+        lent store => no session
+        lent session => bad line
+        lent clock x => bad line
+        start-model 4310 1 0x11 => started
+        lent slept => refused 9
+        lent mode 0 0 => refused 10
+        lent get-u32 10 1000000 => want clock
+        lent store => refused 8
+        lent frame 1 2 3 8 0 => bad line
+        lent clock 5 => want send 2047 0100330A00000000
+        lent patch 11 80 90 => patched 0
+        frame-lent 5 0x11 0x1100330A03000000 8 0 => taken
+        lent lent sent => bad line
+        lent sent => done u32 3
+        session => session last 5 sequence 0 run 0 latest none replies 10 u32 3 5 acks",
+    );
+}
+
+#[test]
 fn mode_switch_that_fails() {
     // The mismatch of the first read stands, although time runs out later.
     check(
@@ -443,6 +465,31 @@ fn random_scripts_leave_out_calls() {
     assert_eq!((lines, left), (chunk.lines, 0));
     assert!(10_000 < lines && lines < 19_000);
     assert!(answers == chunk.answers);
+}
+
+#[test]
+fn the_word_lent_changes_no_answer() {
+    for kinds in ["sessions", "runs", "mode"] {
+        let recipe = Recipe {
+            families: random::families(kinds).expect("kinds"),
+            without: Vec::new(),
+        };
+        let chunk = random::chunk(1, 20_000, &recipe);
+        let mut oracle = Oracle::default();
+        let (mut answers, mut plain, mut lent) = (Vec::new(), 0, 0);
+        lines::answer_lines(chunk.script.as_slice(), &mut answers, |line, out| {
+            let call = line.strip_prefix(b"lent ").unwrap_or(line);
+            lent += u64::from(call != line);
+            plain += u64::from(call == line && parser::may_be_lent(line));
+            oracle.line(call, out)
+        })
+        .expect("no input or output fails");
+        assert!(answers == chunk.answers, "{kinds}");
+        assert!(
+            (plain * 4 / 5..plain * 5 / 4).contains(&lent),
+            "{kinds}: {lent}, {plain}"
+        );
+    }
 }
 
 #[test]

@@ -43,6 +43,10 @@ static CALLS: [&[u8]; 36] = [
     b"suggest P V T COUNT",
 ];
 
+const LENT: &[u8] = b"\
+    lent before a start of a run, an answer or patch makes that call by the function\n\
+    to which the session is lent; it answers the same.\n";
+
 const FIELDS: &[u8] = b"\
     MOTOR and FEEDBACK have 16 bits; RID, DLC, STATUS, MOS, ROTOR and N 8;\n\
     TIMEOUT, READING, DATA and COUNT 64; EXT is 0 or 1; a NAME is any word; the\n\
@@ -67,6 +71,7 @@ pub(crate) fn put_help(page: &mut Page) {
         page.put(call);
         page.put(b"\n");
     }
+    page.put(LENT);
     page.put(FIELDS);
     page.put(REFUSALS);
 }

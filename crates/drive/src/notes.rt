@@ -22,13 +22,14 @@ fn put_fault(page: &mut Page, fault: Fault) {
         Fault::LongLine => page.put(b"longer than 4095 bytes"),
         Fault::ControlByte => page.put(b"a tab or a carriage return"),
         Fault::UnknownWord => page.put(b"unknown word, the line help lists the calls"),
-        Fault::TooFew(name) => put_count(page, b"too few arguments for ", name),
-        Fault::TooMany(name) => put_count(page, b"too many arguments for ", name),
+        Fault::NotLent(name) => put_of_call(page, b"lent cannot stand before ", name),
+        Fault::TooFew(name) => put_of_call(page, b"too few arguments for ", name),
+        Fault::TooMany(name) => put_of_call(page, b"too many arguments for ", name),
         Fault::WrongArgument(name, place, kind) => put_argument(page, name, place, kind),
     }
 }
 
-fn put_count(page: &mut Page, words: &[u8], name: CallName) {
+fn put_of_call(page: &mut Page, words: &[u8], name: CallName) {
     page.put(words);
     page.put(call_text(name));
 }

@@ -1,13 +1,27 @@
-// What a start or an answer returns: the run's next want, or its result.
+// What a call on the session returns; of a start or an answer the run's next want, or its result.
 use crate::page::Page;
 use crate::values::{put_feedback_state, put_value};
+use motor_core::error::Refusal;
 use registers::RegisterValue;
 use run_machine::{Outcome, RunResult};
 use run_want::{Failure, Want};
+use session_call::Returned;
 use session_step::{Told, Wanted};
 use state_feedback::MotorFeedbackState;
 
-pub(crate) fn put_told(page: &mut Page, told: Told) {
+pub(crate) fn put_returned(page: &mut Page, returned: Returned) -> Result<(), Refusal> {
+    match returned {
+        Returned::Run(told) => put_told(page, told?),
+        Returned::Frame(taken) => {
+            taken?;
+            page.put(b"taken");
+        }
+        Returned::Patch(patched) => page.put_numbered(b"patched ", patched),
+    }
+    Ok(())
+}
+
+fn put_told(page: &mut Page, told: Told) {
     match told {
         Told::Want(want) => put_want(page, want),
         Told::Result(outcome) => put_result(page, outcome),

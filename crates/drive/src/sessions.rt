@@ -1,17 +1,15 @@
 // The calls on the session.
 use crate::fields::{frame_at, maxima_at, number_at};
 use crate::page::Page;
-use crate::results::put_told;
-use crate::running::call_run;
+use crate::results::put_returned;
+use crate::running::make_call;
 use crate::session_text::put_session;
 use model_damiao::damiao_models;
 use motor_core::error::Refusal;
 use script::{Call, CallName};
 use script_words::second_word;
 use session::start::{from_limits, from_model};
-use session::{Session, accepts_frame, patch_latest};
-use session_lent::{process_feedback_frame, take_frame};
-use time::Instant;
+use session::{Session, accepts_frame};
 
 // A start that is refused leaves the session that is in use.
 pub(crate) fn start(
@@ -52,42 +50,13 @@ pub(crate) fn answer(
     }
 }
 
-// What goes by value gives back the session, as it was where the call is refused.
 fn on_session(page: &mut Page, session: &mut Session, call: Call) -> Result<(), Refusal> {
     match call.name {
-        CallName::Frame => {
-            let done = take_frame(*session, frame_at(call, 1), reading(call));
-            *session = done.session;
-            done.told?;
-            page.put(b"taken");
-        }
-        CallName::FrameLent => {
-            process_feedback_frame(session, frame_at(call, 1), reading(call))?;
-            page.put(b"taken");
-        }
-        CallName::Patch => {
-            let done = patch_latest(
-                *session,
-                number_at(call, 0),
-                number_at(call, 1),
-                number_at(call, 2),
-            );
-            *session = done.session;
-            page.put_numbered(b"patched ", done.told);
-        }
         CallName::Accepts => {
             page.put_numbered(b"accepts ", accepts_frame(session.head, frame_at(call, 0)));
         }
         CallName::Session => put_session(page, session),
-        _ => {
-            let done = call_run(*session, call);
-            *session = done.session;
-            put_told(page, done.told?);
-        }
+        _ => return put_returned(page, make_call(session, call)),
     }
     Ok(())
-}
-
-fn reading(call: Call) -> Instant {
-    Instant(number_at(call, 0))
 }

@@ -39,6 +39,8 @@ pub enum Outcome {
 
 pub type RunResult = Result<Outcome, Failure>;
 
+// Inlined, with the wants of a switch and the step of a write, so that an answer copies no machine for a call.
+#[inline(always)]
 pub fn machine_want(machine: Machine) -> Want<Message>
     ensures { result ≡ Spec.machine_want machine }
 {

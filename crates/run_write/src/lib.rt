@@ -64,6 +64,8 @@ fn write_waited(tries_left: u8, ack: Stepped<AckWait, ()>) -> Stepped<Write, ()>
 }
 
 // `entry` is what the cache holds of the register's acks. A send that fails is not tried again.
+// Inlined for the reason at `machine_want`.
+#[inline(always)]
 pub fn write_step(
     value: RegisterValue,
     entry: Entry,

@@ -1,23 +1,26 @@
 // A line as a call, by the table of the calls.
 ghost use Rattle.std.specs.Prelude.{◌≡◌};
 ghost use Rattle.script_words.specs.Word.{split};
-ghost use Rattle.script.specs.Line.{calls, call_of, parsed};
+ghost use Rattle.script.specs.Line.{calls, call_of, call_in, parsed};
 
 use crate::calls::{Row, row_of};
 use crate::{Call, Fault, MAX_LINE};
 use script_words::{field, word_at};
 
-// The call that the line's words make.
-fn call_of(line: &[u8]) -> Result<Call, Fault>
-    ensures { result ≡ call_of calls (split line.now) }
+// The call that the words make, lent or not.
+fn call_of(words: &[u8], is_lent: bool) -> Result<Call, Fault>
+    ensures { result ≡ call_of is_lent calls (split words.now) }
 {
-    let Some(Row(_, name, kinds)) = row_of(word_at(line, 0)) else {
+    let Some(Row(_, name, kinds, lends)) = row_of(word_at(words, 0)) else {
         return Err(Fault::UnknownWord);
     };
+    if is_lent && !lends {
+        return Err(Fault::NotLent(name));
+    }
     // by hand: `zip` does not say which of the two goes on
     let mut kinds = kinds.iter();
     let mut args = [0; 9];
-    for (place, word) in line.split(|byte| *byte == b' ').skip(1).enumerate() {
+    for (place, word) in words.split(|byte| *byte == b' ').skip(1).enumerate() {
         let Some(kind) = kinds.next() else {
             return Err(Fault::TooMany(name));
         };
@@ -31,7 +34,22 @@ fn call_of(line: &[u8]) -> Result<Call, Fault>
     }
     match kinds.next() {
         Some(_) => Err(Fault::TooFew(name)),
-        None => Ok(Call { name, args }),
+        None => Ok(Call {
+            name,
+            args,
+            is_lent,
+        }),
+    }
+}
+
+// The call of the whole line, lent where that word stands before it.
+#[tactic(auto, using(crate::proofs::Parsing::by_word))]
+fn call_in(line: &[u8]) -> Result<Call, Fault>
+    ensures { result ≡ call_in line.now }
+{
+    match line.strip_prefix(b"lent ") {
+        Some(rest) => call_of(rest, true),
+        None => call_of(line, false),
     }
 }
 
@@ -49,5 +67,5 @@ pub fn parse(line: &[u8]) -> Result<Option<Call>, Fault>
     if line.contains(&b'\t') || line.contains(&b'\r') {
         return Err(Fault::ControlByte);
     }
-    call_of(line).map(Some)
+    call_in(line).map(Some)
 }

@@ -9,7 +9,7 @@ use motor_core::error::Refusal;
 use run_machine::{Machine, machine_place};
 use run_want::Answer;
 use session::{After, Session};
-use session_step::{Told, answer_step};
+use session_step::{Told, answer_step, with_reading};
 use state_cache::{Entry, Place, slot_of};
 
 pub type AfterCall = After<Result<Told, Refusal>>;
@@ -38,7 +38,8 @@ pub fn answer_lent(session: &mut Session, answer: Answer) -> Result<Told, Refusa
 {
     let entry = entry_at(session, run_place(session.run));
     let step = answer_step(session.head, entry, session.run, answer)?;
-    session.head = step.head;
+    // that is the step's head, which is copied no further
+    session.head = with_reading(session.head, answer);
     session.run = step.run;
     Ok(step.told)
 }

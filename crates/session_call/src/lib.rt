@@ -33,8 +33,9 @@ pub enum Returned {
 
 pub type AfterStep = After<Returned>;
 
-// Makes a call on the session that is lent.
+// Makes a call on the session that is lent. Inlined, so that which call it is need not be asked where it is known.
 #[tactic(auto, unfolding(crate::specs::Step::step))]
+#[inline(always)]
 pub fn step_lent(session: &mut Session, call: Call) -> Returned
     ensures told { result ≡ (Spec.step session.old call).told }
     ensures session { session.new ≡ (Spec.step session.old call).session }

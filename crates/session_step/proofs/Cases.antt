@@ -8,7 +8,11 @@ use Rattle.run_want.specs.Want.{fits}
 use Rattle.run_want.specs.declared.Answer.{Answer}
 use Rattle.run_machine.specs.Machine.{machine_want}
 use Rattle.run_machine.specs.declared.Machine.{Machine}
+use Rattle.run_machine.specs.declared.Outcome.{Outcome}
+use Rattle.run_want.specs.Step.{Stepped}
 use Rattle.run_step.specs.Step.{machine_step}
+use Rattle.std.specs.declared.ops.ControlFlow.TheVariants.{Continue, Break}
+use Rattle.motor_core.proofs.Turned.{clash}
 use Rattle.session.specs.declared.Head.{Head}
 use Rattle.session_step.specs.Parts.{answer_accepted, with_reading, stepped, answer_step}
 use Rattle.session_step.specs.declared.AnswerStep.{AnswerStep}
@@ -31,3 +35,19 @@ module _ (h : Head) (e : Entry) (run : Option Machine) (a : Answer) where
       by : (p : Option Machine) → run ≡ p → P (answer_step h e p a)
       by None o = turned_back Refusal.NotWanted
       by (Some m) o = fit m o (fits (machine_want m) a) refl
+
+-- ---- the head after an accepted answer
+stepped_head : (h : Head) (next : Stepped Machine Outcome) → (stepped h next).head ≡ h
+stepped_head h (Ok (Continue machine)) = refl
+stepped_head h (Ok (Break outcome)) = refl
+stepped_head h (Err failure) = refl
+
+pub head_after : (h : Head) (e : Entry) (run : Option Machine) (a : Answer) (step : AnswerStep) → answer_step h e run a ≡ Ok step → step.head ≡ with_reading h a
+head_after h e run a step =
+    step_cases h e run a (λ r. r ≡ Ok step → step.head ≡ with_reading h a) refused (λ m o f x k. accepted (accepted_by h e run a m) k (stepped_head (with_reading h a) (machine_step h.feedback.latest e m a)))
+  where
+    refused : (n : Refusal) → ◌≡◌ {A = Result AnswerStep Refusal} (Err n) (Ok step) → step.head ≡ with_reading h a
+    refused n k = absurd (clash (cc))
+
+    accepted : (given : AnswerStep) → ◌≡◌ {A = Result AnswerStep Refusal} (Ok given) (Ok step) → given.head ≡ with_reading h a → step.head ≡ with_reading h a
+    accepted given k g = cc

@@ -35,7 +35,8 @@ pub struct AnswerStep {
     pub run: Option<Machine>,
 }
 
-// A want in the caller's terms: a send by its frame.
+// A want in the caller's terms: a send by its frame. Inlined for the reason at `machine_want`.
+#[inline(always)]
 pub fn caller_want(head: Head, want: Want<Message>) -> Wanted
     ensures { result ≡ Spec.caller_want head want }
 {
@@ -58,7 +59,8 @@ fn accepts_answer(last: Instant, answer: Answer) -> bool
     }
 }
 
-fn with_reading(head: Head, answer: Answer) -> Head
+// What an accepted answer leaves of the head.
+pub fn with_reading(head: Head, answer: Answer) -> Head
     ensures { result ≡ Spec.with_reading head answer }
 {
     match answer {

@@ -12,6 +12,7 @@ mod report;
 mod runs;
 mod sessions;
 mod sums;
+mod ways;
 
 use frames::Frames;
 use numbers::Numbers;
@@ -21,6 +22,7 @@ use runs::Kind;
 use std::env::Env;
 use std::io::Print;
 use std::time::CpuClock;
+use ways::{ByValue, Lent, Way};
 
 // 65,536 inputs of five floats, 262,144 frames that are decoded or sorted, and 50,000 that are taken.
 type Floats = [[f32; 5]; 65_536];
@@ -128,24 +130,22 @@ impl<'a, P: Print + CpuClock> Bench<'a, P> {
             fs,
             sessions::take,
         );
-        self.row(
-            "a register read",
-            Frames::Feedback,
-            fs,
-            |frames: &[[u8; 8]]| runs::run_all(Kind::Read, frames),
-        );
-        self.row(
-            "a confirmed write",
-            Frames::Feedback,
-            fs,
-            |frames: &[[u8; 8]]| runs::run_all(Kind::Write, frames),
-        );
-        self.row(
-            "a mode switch",
-            Frames::Feedback,
-            fs,
-            |frames: &[[u8; 8]]| runs::run_all(Kind::Switch, frames),
-        );
+    }
+
+    fn run_rows<W: Way>(&mut self, names: [&str; 3]) {
+        let mut frames: Taken = [[0; 8]; 50_000];
+        let fs = &mut frames;
+        let any = Frames::Feedback;
+        let [read, write, switch] = names;
+        self.row(read, any, fs, |frames: &[[u8; 8]]| {
+            runs::run_all::<W>(Kind::Read, frames)
+        });
+        self.row(write, any, fs, |frames: &[[u8; 8]]| {
+            runs::run_all::<W>(Kind::Write, frames)
+        });
+        self.row(switch, any, fs, |frames: &[[u8; 8]]| {
+            runs::run_all::<W>(Kind::Switch, frames)
+        });
     }
 }
 
@@ -167,6 +167,16 @@ fn rows(rt: &(impl Print + CpuClock), seed: u64, is_timed: bool) {
     bench.frame_rows();
     bench.model_rows(&mut xs);
     bench.session_rows();
+    bench.run_rows::<Lent>([
+        "a register read, lent",
+        "a confirmed write, lent",
+        "a mode switch, lent",
+    ]);
+    bench.run_rows::<ByValue>([
+        "a register read, by value",
+        "a confirmed write, by value",
+        "a mode switch, by value",
+    ]);
 }
 
 fn main(rt: HostRuntime) {

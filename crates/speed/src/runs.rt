@@ -3,23 +3,15 @@
 // all that a frame may change.
 use crate::sessions::{frame_of, session_4310, session_total};
 use crate::sums::mixed;
+use crate::ways::{RunTold, Way};
 use motor_core::bus::CanFrame;
-use motor_core::error::Refusal;
 use protocol_frame::data_bytes;
 use registers::value_bits;
 use run_machine::{Outcome, RunResult};
 use run_want::{Answer, Want};
-use session::{After, Session};
-use session_answer::{AfterCall, answer_run};
-use session_begin::{ensure_control_mode, get_register_u32, write_register_u32};
-use session_lent::take_frame;
+use session::Session;
 use session_step::{Told, Wanted};
 use time::{Duration, Instant};
-
-// In nanoseconds.
-const READ_TIMEOUT: Duration = Duration(100_000_000);
-
-const SWITCH_TIMEOUT: Duration = Duration(400_000_000);
 
 // As closures the three would each take the line, the frame and the place.
 #[derive(Clone, Copy)]
@@ -33,7 +25,8 @@ pub(crate) enum Kind {
 // checksum of what was told so far.
 #[derive(Clone, Copy)]
 struct Line {
-    after: AfterCall,
+    session: Session,
+    told: RunTold,
     value: u32,
     now: Instant,
     sum: u64,
@@ -81,7 +74,7 @@ fn want_total(sum: u64, want: Wanted) -> u64 {
     }
 }
 
-fn told_total(sum: u64, told: Result<Told, Refusal>) -> u64 {
+fn told_total(sum: u64, told: RunTold) -> u64 {
     match told {
         Ok(Told::Want(want)) => want_total(sum, want),
         Ok(Told::Result(result)) => mixed(sum, result_number(result)),
@@ -89,74 +82,69 @@ fn told_total(sum: u64, told: Result<Told, Refusal>) -> u64 {
     }
 }
 
-// What a call left, and what it told.
-fn hear(line: &mut Line, after: AfterCall) {
-    line.after = after;
-    line.sum = told_total(line.sum, after.told);
+// What a call told.
+fn hear(line: &mut Line, told: RunTold) {
+    line.told = told;
+    line.sum = told_total(line.sum, told);
 }
 
-fn clock_read(line: &mut Line) {
-    hear(
-        line,
-        answer_run(line.after.session, Answer::Reading(line.now)),
-    );
+fn clock_read<W: Way>(line: &mut Line) {
+    let told = W::answer(&mut line.session, Answer::Reading(line.now));
+    hear(line, told);
 }
 
-fn sent(line: &mut Line, data: u64) {
-    let frame = motor_frame(line.value, data);
-    let taking = take_frame(line.after.session, frame, line.now);
-    hear(line, answer_run(taking.session, Answer::Send(Ok(()))));
+fn sent<W: Way>(line: &mut Line, data: u64) {
+    W::take(&mut line.session, motor_frame(line.value, data), line.now);
+    let told = W::answer(&mut line.session, Answer::Send(Ok(())));
+    hear(line, told);
     line.value = value_after(line.value, data);
 }
 
-fn slept(line: &mut Line, length: Duration) {
-    hear(line, answer_run(line.after.session, Answer::Slept));
+fn slept<W: Way>(line: &mut Line, length: Duration) {
+    let told = W::answer(&mut line.session, Answer::Slept);
+    hear(line, told);
     line.now = Instant(line.now.0.wrapping_add(length.0));
 }
 
 // Does what is wanted, if anything is, and says so.
-fn answered(line: &mut Line) {
-    match line.after.told {
-        Ok(Told::Want(Want::Clock)) => clock_read(line),
-        Ok(Told::Want(Want::Send(command))) => sent(line, command.data),
-        Ok(Told::Want(Want::Sleep(length))) => slept(line, length),
+fn answered<W: Way>(line: &mut Line) {
+    match line.told {
+        Ok(Told::Want(Want::Clock)) => clock_read::<W>(line),
+        Ok(Told::Want(Want::Send(command))) => sent::<W>(line, command.data),
+        Ok(Told::Want(Want::Sleep(length))) => slept::<W>(line, length),
         _ => {}
     }
 }
 
 // A run whose frames are answered at once is over after so many answers.
-fn answer_all(line: &mut Line, count: u64) {
+fn answer_all<W: Way>(line: &mut Line, count: u64) {
     for _ in 0..count {
-        answered(line);
+        answered::<W>(line);
     }
 }
 
 // The run of a place. The motor has the frame's value if it is read; a write is of it; a switch is to mode
 // 2 if the place is even, else to 1. The readings of a read or a write are its place; of switches the clock
 // stands but for sleeps.
-fn one_run(kind: Kind, line: &mut Line, data: [u8; 8], place: u64) {
+fn one_run<W: Way>(kind: Kind, line: &mut Line, data: [u8; 8], place: u64) {
     match kind {
         Kind::Read => {
             line.value = value_in(data);
             line.now = Instant(place);
-            hear(line, get_register_u32(line.after.session, 10, READ_TIMEOUT));
-            answer_all(line, 2);
+            let told = W::read(&mut line.session);
+            hear(line, told);
+            answer_all::<W>(line, 2);
         }
         Kind::Write => {
             line.now = Instant(place);
-            hear(
-                line,
-                write_register_u32(line.after.session, 10, value_in(data)),
-            );
-            answer_all(line, 2);
+            let told = W::write(&mut line.session, value_in(data));
+            hear(line, told);
+            answer_all::<W>(line, 2);
         }
         Kind::Switch => {
-            let mode = (2 - place % 2) as u32;
-            hear(
-                line,
-                ensure_control_mode(line.after.session, mode, SWITCH_TIMEOUT),
-            );
-            answer_all(line, 19);
+            let told = W::switch(&mut line.session, (2 - place % 2) as u32);
+            hear(line, told);
+            answer_all::<W>(line, 19);
         }
     }
 }
@@ -164,24 +152,22 @@ fn one_run(kind: Kind, line: &mut Line, data: [u8; 8], place: u64) {
 // The motor is in mode 1.
 fn at_first(session: Session) -> Line {
     Line {
-        after: After {
-            session,
-            told: Ok(Told::Want(Want::Clock)),
-        },
+        session,
+        told: Ok(Told::Want(Want::Clock)),
         value: 1,
         now: Instant(0),
         sum: 0,
     }
 }
 
-fn runs_total(kind: Kind, session: Session, frames: &[[u8; 8]]) -> u64 {
+fn runs_total<W: Way>(kind: Kind, session: Session, frames: &[[u8; 8]]) -> u64 {
     let mut line = at_first(session);
     for (place, data) in frames.iter().enumerate() {
-        one_run(kind, &mut line, *data, place as u64);
+        one_run::<W>(kind, &mut line, *data, place as u64);
     }
-    mixed(line.sum, session_total(line.after.session))
+    mixed(line.sum, session_total(line.session))
 }
 
-pub(crate) fn run_all(kind: Kind, frames: &[[u8; 8]]) -> u64 {
-    session_4310().map_or(0, |session| runs_total(kind, session, frames))
+pub(crate) fn run_all<W: Way>(kind: Kind, frames: &[[u8; 8]]) -> u64 {
+    session_4310().map_or(0, |session| runs_total::<W>(kind, session, frames))
 }

@@ -73,6 +73,7 @@ pub fn mode_value(mode: ControlMode) -> RegisterValue
     RegisterValue::UInt32(u32::from(mode))
 }
 
+#[inline(always)]
 fn stage_want(mode: ControlMode, progress: Progress, stage: Stage) -> Want<Message>
     ensures { result ≡ Spec.stage_want mode progress stage }
 {
@@ -89,6 +90,8 @@ fn stage_want(mode: ControlMode, progress: Progress, stage: Stage) -> Want<Messa
     }
 }
 
+// Inlined, as `stage_want`, for the reason at `machine_want`.
+#[inline(always)]
 pub fn switch_want(mode: ControlMode, switch: Switch) -> Want<Message>
     ensures { result ≡ Spec.switch_want mode switch }
 {

@@ -4,6 +4,7 @@ use super::rng::Rng;
 use crate::parser::LONGEST;
 
 const WORDS: &[&str] = &[
+    "lent",
     "start-limits",
     "start-model",
     "get-u32",
@@ -80,7 +81,7 @@ const NUMBERS: &[&str] = &[
 
 /// A line made from a good one. It may be good still.
 pub fn line(rng: &mut Rng, good: Vec<u8>) -> Vec<u8> {
-    let mut line = match rng.below(20) {
+    let mut line = match rng.below(22) {
         0 => (0..rng.below(40)).map(|_| rng.next() as u8).collect(),
         1 => (0..rng.below(40))
             .map(|_| 32 + rng.below(95) as u8)
@@ -102,6 +103,7 @@ pub fn line(rng: &mut Rng, good: Vec<u8>) -> Vec<u8> {
         10..=13 => spoil_word(rng, &good),
         14 => good[..rng.below(good.len() as u64 + 1) as usize].to_vec(),
         15 => good.to_ascii_uppercase(),
+        16 | 17 => put_lent(rng, &good),
         _ => spoil_byte(rng, good),
     };
     // A line holds no newline.
@@ -135,6 +137,18 @@ fn spoil_word(rng: &mut Rng, good: &[u8]) -> Vec<u8> {
         1 => words.insert(at, words[at]),
         _ => words[at] = rng.pick(NUMBERS).as_bytes(),
     }
+    words.join(&b' ')
+}
+
+/// The word `lent` before a line, mostly, or between its words or behind them.
+fn put_lent(rng: &mut Rng, good: &[u8]) -> Vec<u8> {
+    let mut words: Vec<&[u8]> = good.split(|byte| *byte == b' ').collect();
+    let at = if rng.chance(60) {
+        0
+    } else {
+        rng.below(words.len() as u64 + 1) as usize
+    };
+    words.insert(at, b"lent");
     words.join(&b' ')
 }
 

@@ -79,6 +79,7 @@ pub fn chunk(seed: u64, lines: u64, recipe: &Recipe) -> Chunk {
     let mut generator = Generator {
         runs: Runs::new(&mut rng),
         rng,
+        lending: Rng::new(mixed(seed)),
         oracle: Oracle::default(),
         recipe,
     };
@@ -113,6 +114,8 @@ pub fn chunk(seed: u64, lines: u64, recipe: &Recipe) -> Chunk {
 
 struct Generator<'a> {
     rng: Rng,
+    /// Which calls are lent, on its own: but for that word the other lines are the same with it and without.
+    lending: Rng,
     oracle: Oracle,
     runs: Runs,
     recipe: &'a Recipe,
@@ -133,14 +136,25 @@ impl Generator<'_> {
 
     /// Whether a line is a call that the recipe does without. A bad line with the call's word is none.
     fn leaves_out(&self, line: &[u8]) -> bool {
-        let word = line.split(|byte| *byte == b' ').next().unwrap_or_default();
+        let call = line.strip_prefix(b"lent ").unwrap_or(line);
+        let word = call.split(|byte| *byte == b' ').next().unwrap_or_default();
         self.oracle.session().is_some()
-            && self
-                .recipe
-                .without
-                .iter()
-                .any(|call| call.as_bytes() == word)
+            && self.is_without(word)
             && matches!(parser::parse(line), Line::Call(_))
+    }
+
+    fn is_without(&self, word: &[u8]) -> bool {
+        let without = &self.recipe.without;
+        without.iter().any(|call| call.as_bytes() == word)
+    }
+
+    /// The call with the word `lent` before it, in half of the cases where that may be.
+    fn lent(&mut self, line: Vec<u8>) -> Vec<u8> {
+        if !self.is_without(b"lent") && parser::may_be_lent(&line) && self.lending.chance(50) {
+            [b"lent ", line.as_slice()].concat()
+        } else {
+            line
+        }
     }
 
     /// How many lines of a family stand together. Runs want many.
@@ -154,6 +168,11 @@ impl Generator<'_> {
     }
 
     fn line(&mut self, family: Family) -> Vec<u8> {
+        let line = self.plain(family);
+        self.lent(line)
+    }
+
+    fn plain(&mut self, family: Family) -> Vec<u8> {
         let rng = &mut self.rng;
         match family {
             FramesOut => stateless::frames_out(rng),
