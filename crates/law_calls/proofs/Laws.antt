@@ -2,7 +2,7 @@
 use Rattle.std.specs.Prelude.{None, Option, Some, Ok, Err}
 use Prim.Native.Nat.{ℕ}
 use mathlib.Core.Path.{◌≡◌, refl, sym, ap, ◌∙◌, subst}
-use mathlib.Core.List.{List}
+use mathlib.Core.List.{List, ◌∷◌, ◌++◌, append_assoc}
 use Rattle.motor_core.specs.declared.bus.CanFrame.{CanFrame}
 use Rattle.motor_core.specs.declared.error.Refusal.{Refusal}
 use Rattle.time.specs.declared.Instant.{Instant}
@@ -28,11 +28,12 @@ use Rattle.session_call.specs.Step.{step}
 use Rattle.session_call.specs.declared.Call.{Call}
 use Rattle.session_call.specs.declared.Returned.{Returned}
 use Rattle.law_calls.specs.Calls.{Answered, Accepted, open_want, Fresh, events, session_after}
-use Rattle.state_cache.specs.declared.Entry.TheVariants.{Empty}
+use Rattle.registers.specs.declared.RegisterValue.{RegisterValue}
+use Rattle.state_cache.specs.declared.Entry.TheVariants.{Empty, Held}
 use Prim.Native.Nat.{◌≤◌}
-use Rattle.law_calls.specs.Laws.{held, stamp_of, record_stamp, Leaves, PatchLeaves, SameLatest, OfRun, Laws}
-use Rattle.law_calls.specs.Places.{Sees, nothing, seen_after, last_taken}
-use Rattle.law_calls.specs.Turns.{turns, turns_after, result_in}
+use Rattle.law_calls.specs.Laws.{held, stamp_of, record_stamp, Leaves, PatchLeaves, SameLatest, SeesTaken, OfRun, Laws}
+use Rattle.law_calls.specs.Places.{brings, Sees, nothing, seen_after, last_taken}
+use Rattle.law_calls.specs.Turns.{Turn, turns, turns_after, result_in}
 use Rattle.law_calls.proofs.Ended.{still_open, answered, refuses, closed_after}
 use Rattle.law_calls.proofs.Lists.{sessions_joined, events_joined, places_joined, turns_joined, turns_over, counts_joined}
 use Rattle.law_calls.proofs.Origin.{origin}
@@ -90,6 +91,36 @@ module _ (motor feedback : ℕ) (s : Session) (fresh : Fresh motor feedback s) (
 
   sees_taken : held (session_after s cs) ≡ seen_after nothing (events s cs)
   sees_taken = λ i place. holds_last place i
+
+-- ---- what a turn sees
+
+module _ (s₀ : Session) (before : List Call) (start : Start) (after : List Call) where
+  abbrev s : Session
+  s = session_after s₀ before
+
+  abbrev s' : Session
+  s' = (step s (Call.Start start)).session
+
+  -- up to a call after the start
+  abbrev upto : List Call → List Call
+  upto bs = before ++ (Call.Start start ∷ bs)
+
+  taken_upto : (bs : List Call) (place : Place) → last_taken place (last_taken place Empty (events s₀ before)) (events s' bs) ≡ last_taken place Empty (events s₀ (upto bs))
+  unfolding events last_taken brings
+  taken_upto bs place =
+      sym (places_joined place Empty (events s₀ before) (events s (Call.Start start ∷ bs)))
+      ∙ ap (last_taken place Empty) (sym (events_joined s₀ before (Call.Start start ∷ bs)))
+
+  turn_sees : (earlier : List Turn) (t : Turn) (later : List Turn) → turns (seen_after nothing (events s₀ before)) (events s' after) ≡ earlier ++ (t ∷ later)
+      → (place : Place) (value : RegisterValue) (stamp : Instant) → t.sees place ≡ Held value stamp → SeesTaken s₀ (before ++ (Call.Start start ∷ after)) t place value stamp
+  turn_sees earlier t later is place value stamp holds =
+      let call = turn_calls t later after s' (seen_after nothing (events s₀ before)) earlier is in
+      record {
+        upto = upto call.before;
+        later = call.later;
+        whole = ap upto call.whole ∙ sym (append_assoc before (Call.Start start ∷ call.before) (Call.Answer t.answer ∷ call.later));
+        taken = origin (events s₀ (upto call.before)) place value stamp (sym (taken_upto call.before place) ∙ sym (call.saw place) ∙ holds);
+      }
 
 -- ---- runs
 
@@ -167,6 +198,7 @@ laws = record {
   holds_last = holds_last;
   origin = origin;
   turn_calls = λ s sees cs earlier t later. turn_calls t later cs s sees earlier;
+  turn_sees = λ motor feedback s₀ fresh before start after. turn_sees s₀ before start after;
   readings = λ s cs. readings cs s;
   bounded = λ motor feedback s fresh cs.
       let sound = fresh_sound motor feedback s fresh in

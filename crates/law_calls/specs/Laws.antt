@@ -97,6 +97,13 @@ pub record IsCall (s : Session) (sees : Sees) (cs : List Call) (t : Turn) : Type
   pub returned : (step (session_after s before) (Call.Answer t.answer)).told ≡ Returned.Run t.gave.told
   pub saw : (place : Place) → t.sees place ≡ last_taken place (sees place) (events s before)
 
+-- that call is made after the calls `upto` of the whole list from the session `s`, and what it sees at a place was taken among these
+pub record SeesTaken (s : Session) (cs : List Call) (t : Turn) (place : Place) (value : RegisterValue) (stamp : Instant) : Type 0 where
+  pub upto : List Call
+  pub later : List Call
+  pub whole : cs ≡ upto ++ (Call.Answer t.answer ∷ later)
+  pub taken : Taken place value stamp (events s upto)
+
 -- ---- readings
 
 -- a reading that came with a call, if the call was accepted
@@ -191,6 +198,12 @@ pub record Laws : Type 0 where
   pub origin : (cs : List Event) (place : Place) (value : RegisterValue) (stamp : Instant) → last_taken place Empty cs ≡ Held value stamp → Taken place value stamp cs
   -- a turn is a call in the list, and sees what was taken before it
   pub turn_calls : (s : Session) (sees : Sees) (cs : List Call) (earlier : List Turn) (t : Turn) (later : List Turn) → turns sees (events s cs) ≡ earlier ++ (t ∷ later) → IsCall s sees cs t
+  -- so what a turn of a run sees of a register's replies or acks came by a frame of the list
+  pub turn_sees : (motor feedback : ℕ) (s₀ : Session) → Fresh motor feedback s₀ → (before : List Call) (start : Start) (after : List Call) →
+      (let s' = (step (session_after s₀ before) (Call.Start start)).session in
+      (earlier : List Turn) (t : Turn) (later : List Turn) → turns (seen_after nothing (events s₀ before)) (events s' after) ≡ earlier ++ (t ∷ later) →
+      (place : Place) (value : RegisterValue) (stamp : Instant) → t.sees place ≡ Held value stamp →
+      SeesTaken s₀ (before ++ (Call.Start start ∷ after)) t place value stamp)
   -- accepted readings never fall, the last of them is the session's, and stamps are no later and never fall either
   pub readings : (s : Session) (cs : List Call) → Rising s.head.last (events s cs) × ((session_after s cs).head.last ≡ last_reading s.head.last (events s cs))
   pub bounded : (motor feedback : ℕ) (s : Session) → Fresh motor feedback s → (cs : List Call) →
