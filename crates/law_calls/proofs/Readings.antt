@@ -98,9 +98,10 @@ unfolding events session_after Rising last_reading
 readings [] s = (tt, refl)
 readings (c ∷ cs) s =
     let here = step_reads s c in
-    let rest = readings cs (step s c).session in
-    ((here.0, subst (λ (l : Instant). Rising l (events (step s c).session cs)) here.1 rest.0),
-    rest.1 ∙ ap (λ (l : Instant). last_reading l (events (step s c).session cs)) here.1)
+    let rest = readings cs (step s c).session in (
+      (here.0, subst (λ (l : Instant). Rising l (events (step s c).session cs)) here.1 rest.0),
+      rest.1 ∙ ap (λ (l : Instant). last_reading l (events (step s c).session cs)) here.1,
+    )
 
 -- ---- stamps
 
@@ -164,10 +165,10 @@ module _ (h : Head) (s : Session) (sound : Sound h s) (stamped : Stamped s) wher
           let forward = (taken_reading s.head f t e).0 in
           let last : after.head.last ≡ t = Frame.last_after_frame s f t ∙ ap (λ (o : FrameOutcome). Brought.last_with o t s.head.last) e in
           let place_stamps : (place : Place) → (stamp_of (held s place) ≤ stamp_of (held after place)) × (stamp_of (held after place) ≤ after.head.last.0) = λ place.
-              let is : held after place ≡ replaced (held s place) (frame_brings place f t (Returned.Frame (Ok tt))) =
-                  frame_held h s sound f t place ∙ ap (λ (o : FrameOutcome). replaced (held s place) (frame_brings place f t (Returned.Frame o))) (Frame.outcome_of_frame s f t ∙ e) in
-              let new = new_stamp (held s place) t place (frame_brings place f t (Returned.Frame (Ok tt))) (brought_stamp f t place) (stamped.at_place place) forward in
-              (omega (arith, ap stamp_of is, new.0), omega (arith, ap stamp_of is, new.1, ap (λ (l : Instant). l.0) last)) in
+          let is : held after place ≡ replaced (held s place) (frame_brings place f t (Returned.Frame (Ok tt))) =
+          frame_held h s sound f t place ∙ ap (λ (o : FrameOutcome). replaced (held s place) (frame_brings place f t (Returned.Frame o))) (Frame.outcome_of_frame s f t ∙ e) in
+          let new = new_stamp (held s place) t place (frame_brings place f t (Returned.Frame (Ok tt))) (brought_stamp f t place) (stamped.at_place place) forward in
+          (omega (arith, ap stamp_of is, new.0), omega (arith, ap stamp_of is, new.1, ap (λ (l : Instant). l.0) last)) in
           let of_record = record_stamps (state_taken s.head f t) t s.head.feedback stamped.latest forward in
           let latest = ap (λ (cache : FeedbackCache). record_stamp cache.latest) (Frame.record_after_frame s f t) in (
             record { at_place = λ place. (place_stamps place).0; latest = omega (arith, latest, of_record.0) },
