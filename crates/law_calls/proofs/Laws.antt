@@ -124,10 +124,8 @@ module _ (s₀ : Session) (before : List Call) (start : Start) (after : List Cal
 
 -- ---- runs
 
-told_in : Answered → Returned → Answered
-told_in t (Returned.Run x) = x
-told_in t (Returned.Frame outcome) = t
-told_in t (Returned.Patch done) = t
+same_told : (t w : Answered) → Returned.Run t ≡ Returned.Run w → t ≡ w
+same_told t w e = cc
 
 module _ (s : Session) (sound : Sound s.head s) (b : Start) (after : List Call) where
   -- of what a start came to
@@ -137,8 +135,8 @@ module _ (s : Session) (sound : Sound s.head s) (b : Start) (after : List Call) 
       → OfRun s b (record { told = w; wants = open_want r.session.run }) (turns_after w (held s) (events r.session after)) (session_after r.session after)
 
   refused_start : (k : Refusal) → Starts (record { session = s; told = Err k })
-  unfolding Accepted told_in
-  refused_start k w e accepted = absurd (subst Accepted (sym (ap (told_in w) e)) accepted)
+  unfolding Accepted
+  refused_start k w e accepted = absurd (subst Accepted (sym (same_told (Err k) w e)) accepted)
 
   module _ (m : Machine) (opens : machine_of b ≡ Ok m) where
     abbrev began : AfterCall
@@ -169,9 +167,8 @@ module _ (s : Session) (sound : Sound s.head s) (b : Start) (after : List Call) 
         }
 
     accepted_start : Starts began
-    unfolding told_in
     accepted_start w e accepted =
-        subst (λ (w : Answered). OfRun s b (record { told = w; wants = Some (machine_want m) }) (turns_after w (held s) (events began.session after)) (session_after began.session after)) (ap (told_in began.told) e) of_run
+        subst (λ (w : Answered). OfRun s b (record { told = w; wants = Some (machine_want m) }) (turns_after w (held s) (events began.session after)) (session_after began.session after)) (same_told began.told w e) of_run
 
   any_start : Starts (begin s b)
   any_start = start_cases s b Starts refused_start (λ m c e. accepted_start m e)

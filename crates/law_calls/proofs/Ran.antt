@@ -42,6 +42,7 @@ use Rattle.law_calls.specs.Laws.{held}
 use Rattle.law_calls.specs.Places.{brings, Sees, seen_with}
 use Rattle.law_calls.specs.Ran.{looked_at, gives, gives_result, Took, next, Onward, Ran}
 use Rattle.law_calls.specs.Turns.{Gave, Turn, turn_in, turn_of, add_turn, turns}
+use Rattle.law_calls.proofs.Readings.{step_goes_on}
 use Rattle.law_calls.proofs.Sessions.{Sound, step_sound, step_held, answer_sound}
 
 -- told by the motor id and the limits alone
@@ -85,11 +86,10 @@ module _ (h : Head) where
 
   module _ (cs : List Call) (rest : Holds cs) (s : Session) (m : Machine) (o : s.run ≡ Some m) (sound : Sound h s) where
     -- a call that leaves the run is no turn of it
-    passes : (c : Call) → (step s c).session.run ≡ s.run → s.head.last.0 ≤ (step s c).session.head.last.0
-        → let s' = (step s c).session in Ran h (session_after s' cs) m s.head.last (turns (seen_with (held s) (event s c)) (events s' cs))
-    passes c run last =
+    passes : (c : Call) → (step s c).session.run ≡ s.run → let s' = (step s c).session in Ran h (session_after s' cs) m s.head.last (turns (seen_with (held s) (event s c)) (events s' cs))
+    passes c run =
         let s' = (step s c).session in
-        earlier (session_after s' cs) m s.head.last s'.head.last _ last
+        earlier (session_after s' cs) m s.head.last s'.head.last _ (step_goes_on s c)
         (subst (λ (sees : Sees). Ran h (session_after s' cs) m s'.head.last (turns sees (events s' cs))) (λ i place. step_held h s c sound place i)
         (rest s' m (run ∙ o) (step_sound h s c sound)))
 
@@ -141,11 +141,7 @@ module _ (h : Head) where
   pub ran : (cs : List Call) → Holds cs
   unfolding Ran events turns session_after add_turn turn_of step brings
   ran [] s m o sound = (o, sound.last)
-  ran (Call.Start b ∷ cs) s m o sound =
-      let same = start_waits s b m o in
-      passes cs (ran cs) s m o sound (Call.Start b) (ap (λ (r : AfterCall). r.session.run) same) (subst (λ (l : Instant). s.head.last.0 ≤ l.0) (sym (ap (λ (r : AfterCall). r.session.head.last) same)) (le_refl s.head.last.0))
+  ran (Call.Start b ∷ cs) s m o sound = passes cs (ran cs) s m o sound (Call.Start b) (ap (λ (r : AfterCall). r.session.run) (start_waits s b m o))
   ran (Call.Answer a ∷ cs) s m o sound = answer_ran cs (ran cs) s m o sound a
-  ran (Call.Frame f t ∷ cs) s m o sound = passes cs (ran cs) s m o sound (Call.Frame f t) (Frame.left s f t).run (Frame.last_goes_on s f t)
-  ran (Call.Patch status mos rotor ∷ cs) s m o sound =
-      let kept = left s status mos rotor in
-      passes cs (ran cs) s m o sound (Call.Patch status mos rotor) kept.run (subst (λ (l : Instant). s.head.last.0 ≤ l.0) (sym kept.last) (le_refl s.head.last.0))
+  ran (Call.Frame f t ∷ cs) s m o sound = passes cs (ran cs) s m o sound (Call.Frame f t) (Frame.left s f t).run
+  ran (Call.Patch status mos rotor ∷ cs) s m o sound = passes cs (ran cs) s m o sound (Call.Patch status mos rotor) (left s status mos rotor).run

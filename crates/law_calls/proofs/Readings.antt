@@ -30,7 +30,7 @@ use Rattle.session_frame.proofs.Outcomes.{taken_reading}
 use Rattle.session_frame.proofs.Brought as Brought
 use Rattle.session_frame.proofs.Brought.{if_taken, state_taken, record_with, reported}
 use Rattle.session_frame.specs.Frame.{FrameOutcome, frame_outcome, take_frame}
-use Rattle.session_answer.proofs.Effects.{entry, answer_cases, answer_keeps, answer_last}
+use Rattle.session_answer.proofs.Effects.{entry, answer_cases, answer_keeps}
 use Rattle.session_answer.specs.Answer.{with_step, answer_run}
 use Rattle.session_step.specs.Parts.{answer_accepted, with_reading, stepped}
 use Rattle.session_begin.proofs.Effects.{start_keeps, start_last}
@@ -92,6 +92,14 @@ step_reads s (Call.Start b) = (tt, start_last s b)
 step_reads s (Call.Answer a) = answer_reads s a
 step_reads s (Call.Frame f t) = frame_reads s f t
 step_reads s (Call.Patch status mos rotor) = (tt, (left s status mos rotor).last)
+
+-- so whatever the call, the last reading does not go back
+pub step_goes_on : (s : Session) (c : Call) → s.head.last.0 ≤ (step s c).session.head.last.0
+step_goes_on s c = go (accepted_reading c (step s c).told) (step_reads s c)
+  where
+    go : (r : Option Instant) → Reads s r (step s c).session → s.head.last.0 ≤ (step s c).session.head.last.0
+    go None (next, last) = subst (λ (l : Instant). s.head.last.0 ≤ l.0) (sym last) (le_refl s.head.last.0)
+    go (Some t) (next, last) = subst (λ (l : Instant). s.head.last.0 ≤ l.0) (sym last) next.0
 
 pub readings : (cs : List Call) (s : Session) → Rising s.head.last (events s cs) × ((session_after s cs).head.last ≡ last_reading s.head.last (events s cs))
 unfolding events session_after Rising last_reading
@@ -187,13 +195,13 @@ pub step_stamps : (h : Head) (s : Session) (c : Call) → Sound h s → Stamped 
 unfolding step
 step_stamps h s (Call.Start b) sound stamped =
     let kept = start_keeps s b in
-    same_stamps h s sound stamped (begin s b).session (start_held h s sound b) (ap (λ (cache : FeedbackCache). record_stamp cache.latest) kept.record_kept) (subst (λ (l : Instant). s.head.last.0 ≤ l.0) (sym (start_last s b)) (le_refl s.head.last.0))
+    same_stamps h s sound stamped (begin s b).session (start_held h s sound b) (ap (λ (cache : FeedbackCache). record_stamp cache.latest) kept.record_kept) (step_goes_on s (Call.Start b))
 step_stamps h s (Call.Answer a) sound stamped =
     let kept = answer_keeps s a in
-    same_stamps h s sound stamped (answer_run s a).session (answer_held h s sound a) (ap (λ (cache : FeedbackCache). record_stamp cache.latest) kept.record_kept) (answer_last s a).0
+    same_stamps h s sound stamped (answer_run s a).session (answer_held h s sound a) (ap (λ (cache : FeedbackCache). record_stamp cache.latest) kept.record_kept) (step_goes_on s (Call.Answer a))
 step_stamps h s (Call.Frame f t) sound stamped = frame_stamps h s sound stamped f t
 step_stamps h s (Call.Patch status mos rotor) sound stamped =
-    same_stamps h s sound stamped (patch s status mos rotor).session (Sessions.patch_held h s sound status mos rotor) (patch_stamp h s sound stamped status mos rotor) (subst (λ (l : Instant). s.head.last.0 ≤ l.0) (sym (left s status mos rotor).last) (le_refl s.head.last.0))
+    same_stamps h s sound stamped (patch s status mos rotor).session (Sessions.patch_held h s sound status mos rotor) (patch_stamp h s sound stamped status mos rotor) (step_goes_on s (Call.Patch status mos rotor))
 
 pub list_stamps : (h : Head) (cs : List Call) (s : Session) → Sound h s → Stamped s → Grows s (session_after s cs) × Stamped (session_after s cs)
 unfolding session_after

@@ -186,7 +186,4 @@ unfolding step IsRefusal
 refused_leaves s (Call.Start b) r = by_refusal (begin s b).told r (start_refused s b)
 refused_leaves s (Call.Answer a) r = by_refusal (answer_run s a).told r (answer_refused s a)
 refused_leaves s (Call.Frame f t) r = frame_refusal (take_frame s f t).told r (Frame.turned_back s f t)
-refused_leaves s (Call.Patch status mos rotor) r = absurd (never r)
-  where
-    never : IsRefusal (Returned.Patch (patch s status mos rotor).told) → ⊥
-    never x = x
+refused_leaves s (Call.Patch status mos rotor) r = absurd r
