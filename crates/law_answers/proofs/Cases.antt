@@ -1,11 +1,11 @@
 -- The cases hold: the checker computes each call. Assumes nothing.
 use mathlib.Core.Path.{refl}
-use lib.Ieee.{le}
+use lib.Ieee.{le, nan_bits}
 use Rattle.motor_core.specs.Model.{limits_of, limit_accepted}
 use Rattle.motor_core.specs.declared.bus.CanFrame.{CanFrame}
 use Rattle.motor_core.specs.declared.model.PvTLimits.{PvTLimits}
 use Rattle.registers.specs.Registers.{registers, elem, known, info_of, access_of, data_type_of, writable, whole_number}
-use Rattle.registers.specs.Value.{of_type, type_of, value_of}
+use Rattle.registers.specs.Value.{of_type, type_of, value_of, same_value}
 use Rattle.protocol_frame.specs.Layout.{packed_onto, little_endian, bytes}
 use Rattle.protocol_frame.specs.Command.{frame_for}
 use Rattle.protocol_request.specs.Request.{register_read_data, addressed}
@@ -17,10 +17,11 @@ use Rattle.session.specs.Start.{from_limits, from_model}
 use Rattle.session_frame.specs.Frame.{take_frame}
 use Rattle.session_answer.specs.Answer.{answer_run}
 use Rattle.session_call.specs.Step.{step}
+use Rattle.law_calls.specs.Calls.{session_after}
 use Rattle.law_answers.specs.Cases.{Occurring}
 
 pub occurring : (l : PvTLimits) (f : CanFrame) → Occurring l f
-unfolding le limits_of limit_accepted registers elem known info_of access_of data_type_of writable whole_number of_type type_of frame_for packed_onto little_endian bytes register_read_data addressed class received register_value value_of limits_by_name queryable query_accepted answer fresh from_limits from_model take_frame answer_run step
+unfolding le limits_of limit_accepted registers elem known info_of access_of data_type_of writable whole_number of_type type_of frame_for packed_onto little_endian bytes register_read_data addressed class received register_value value_of limits_by_name queryable query_accepted answer fresh from_limits from_model take_frame answer_run step session_after same_value nan_bits
 occurring l f = record {
   limit = refl;
   motor_id = refl;
@@ -48,6 +49,11 @@ occurring l f = record {
   kind_before_reading = refl;
   switched = refl;
   at_the_ends = refl;
+  written = refl;
+  nan_read = refl;
+  no_state = refl;
+  mismatched = refl;
+  wrong_type = refl;
   wants_clock = refl;
   wants_send = refl;
   wants_sleep = refl;

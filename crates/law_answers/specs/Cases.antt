@@ -1,5 +1,5 @@
 -- Each number occurs, and where a call meets two rows the order decides. `proofs/Cases.antt` has the proof.
-use Rattle.std.specs.Prelude.{ℕ, ◌+◌, ◌^◌, ◌≡◌, false, List, [], ◌∷◌, Ok, Err}
+use Rattle.std.specs.Prelude.{ℕ, ◌+◌, ◌^◌, ◌≡◌, false, List, [], ◌∷◌, ◌++◌, Ok, Err}
 use Rattle.std.specs.Float.{nan}
 use Rattle.motor_core.specs.declared.bus.CanFrame.{CanFrame}
 use Rattle.motor_core.specs.declared.model.Maxima.{Maxima}
@@ -14,9 +14,10 @@ use Rattle.run_want.specs.declared.SendError.TheVariants.{Failed}
 use Rattle.session.specs.Session.{fresh}
 use Rattle.session.specs.Start.{from_limits, from_model}
 use Rattle.session.specs.declared.Session.{Session}
-use Rattle.session_begin.specs.declared.Start.TheVariants.{GetRegisterU32, WriteRegisterU32, StoreParameters, EnsureControlMode}
+use Rattle.session_begin.specs.declared.Start.TheVariants.{GetRegisterU32, GetRegisterF32, WriteRegisterU32, RequestFreshState, StoreParameters, EnsureControlMode}
 use Rattle.session_call.specs.Step.{step}
 use Rattle.session_call.specs.declared.Call.{Call}
+use Rattle.law_calls.specs.Calls.{session_after}
 use Rattle.law_answers.specs.Answers.{whole, Items, Numbered, of_start, of_command, of_entry, of_query, of_call}
 
 -- no limit is accepted of these
@@ -28,12 +29,8 @@ abbrev pub session : PvTLimits → Session
 session limits = fresh 1 0x11 limits
 
 -- what a call on it says after others
-abbrev pub left_by : Session → List Call → Session
-left_by s [] = s
-left_by s (c ∷ cs) = left_by (step s c).session cs
-
 abbrev pub said_after : PvTLimits → List Call → Call → Numbered Items
-said_after limits cs c = of_call (step (left_by (session limits) cs) c).told
+said_after limits cs c = of_call (step (session_after (session limits) cs) c).told
 
 abbrev pub number_after : PvTLimits → List Call → Call → ℕ
 number_after limits cs c = (said_after limits cs c).number
@@ -69,13 +66,25 @@ sent = Call.Answer (Send (Ok tt))
 abbrev pub slept : Call
 slept = Call.Answer Slept
 
+abbrev pub register_frame : List ℕ → CanFrame
+register_frame bytes = record { arbitration_id = 0x11; «data» = bytes; dlc = 8; is_extended = false }
+
 abbrev pub ten_is_one : CanFrame
-ten_is_one = record {
-  arbitration_id = 0x11;
-  «data» = 0x11 ∷ 0x0F ∷ 0x33 ∷ 0x0A ∷ 0x01 ∷ 0x00 ∷ 0x00 ∷ 0x00 ∷ [];
-  dlc = 8;
-  is_extended = false;
-}
+ten_is_one = register_frame (0x11 ∷ 0x0F ∷ 0x33 ∷ 0x0A ∷ 0x01 ∷ 0x00 ∷ 0x00 ∷ 0x00 ∷ [])
+
+-- the same register's ack, and a float register's reply that it holds a NaN
+abbrev pub ack_ten : ℕ → CanFrame
+ack_ten value = register_frame (0x01 ∷ 0x00 ∷ 0x55 ∷ 0x0A ∷ value ∷ 0x00 ∷ 0x00 ∷ 0x00 ∷ [])
+
+abbrev pub zero_is_nan : CanFrame
+zero_is_nan = register_frame (0x01 ∷ 0x00 ∷ 0x33 ∷ 0x00 ∷ 0x01 ∷ 0x00 ∷ 0xC0 ∷ 0x7F ∷ [])
+
+-- a write of 1 to register 10, and what answers a try of it
+abbrev pub write_ten : Call
+write_ten = Call.Start (WriteRegisterU32 10 1)
+
+abbrev pub one_try : List Call
+one_try = sent ∷ reading 6 ∷ []
 
 -- its calls up to the sleep
 abbrev pub asked : List Call
@@ -111,6 +120,12 @@ pub record Occurring (l : PvTLimits) (f : CanFrame) : Type 0 where
   -- nothing is turned back
   pub switched : number_after l [] (switch 1 (millis 400)) ≡ 0
   pub at_the_ends : number_after l (switch 4 (millis 60_000) ∷ []) (reading (2 ^ 62)) ≡ 0
+  -- what each result says: done, with a value or a state, or with neither; no state; a mismatch on the third try; the other type. A timeout and a failed send are below
+  pub written : values_after l (write_ten ∷ frame (ack_ten 1) 6 ∷ sent ∷ []) (reading 6) ≡ whole 1 ∷ whole 0 ∷ []
+  pub nan_read : values_after l (Call.Start (GetRegisterF32 0 (millis 100)) ∷ reading 5 ∷ frame zero_is_nan 6 ∷ []) sent ≡ whole 1 ∷ whole 0 ∷ whole 1 ∷ whole 0x7FC0_0001 ∷ []
+  pub no_state : values_after l (Call.Start (RequestFreshState (millis 1)) ∷ reading 5 ∷ sent ∷ []) (reading 1_000_005) ≡ whole 1 ∷ whole 1 ∷ []
+  pub mismatched : values_after l (write_ten ∷ frame (ack_ten 2) 6 ∷ one_try ++ (slept ∷ one_try) ++ (slept ∷ sent ∷ [])) (reading 6) ≡ whole 1 ∷ whole 3 ∷ whole 2 ∷ whole 2 ∷ []
+  pub wrong_type : values_after l (Call.Start (GetRegisterF32 10 (millis 100)) ∷ reading 5 ∷ frame ten_is_one 6 ∷ []) sent ≡ whole 1 ∷ whole 4 ∷ []
   -- what a read says, a call at a time
   pub wants_clock : values_after l [] read_ten ≡ whole 0 ∷ whole 0 ∷ []
   pub wants_send : values_after l (read_ten ∷ []) (reading 5) ≡ whole 0 ∷ whole 1 ∷ whole 0x7FF ∷ whole 0x0100_330A_0000_0000 ∷ []

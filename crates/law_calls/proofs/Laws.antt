@@ -2,7 +2,7 @@
 use Rattle.std.specs.Prelude.{None, Option, Some, Ok, Err}
 use Prim.Native.Nat.{ℕ}
 use mathlib.Core.Path.{◌≡◌, refl, sym, ap, ◌∙◌, subst}
-use mathlib.Core.List.{List, ◌∷◌, ◌++◌, append_assoc}
+use mathlib.Core.List.{List, ◌∷◌, ◌++◌}
 use Rattle.motor_core.specs.declared.bus.CanFrame.{CanFrame}
 use Rattle.motor_core.specs.declared.error.Refusal.{Refusal}
 use Rattle.time.specs.declared.Instant.{Instant}
@@ -31,7 +31,7 @@ use Rattle.law_calls.specs.Calls.{Answered, Accepted, open_want, Fresh, events, 
 use Rattle.registers.specs.declared.RegisterValue.{RegisterValue}
 use Rattle.state_cache.specs.declared.Entry.TheVariants.{Empty, Held}
 use Prim.Native.Nat.{◌≤◌}
-use Rattle.law_calls.specs.Laws.{held, stamp_of, record_stamp, Leaves, PatchLeaves, SameLatest, SeesTaken, OfRun, Laws}
+use Rattle.law_calls.specs.Laws.{held, stamp_of, record_stamp, Leaves, PatchLeaves, SameLatest, Taken, IsCall, OfRun, Laws}
 use Rattle.law_calls.specs.Places.{brings, Sees, nothing, seen_after, last_taken}
 use Rattle.law_calls.specs.Turns.{Turn, turns, turns_after, result_in}
 use Rattle.law_calls.proofs.Ended.{still_open, answered, refuses, closed_after}
@@ -94,33 +94,23 @@ module _ (motor feedback : ℕ) (s : Session) (fresh : Fresh motor feedback s) (
 
 -- ---- what a turn sees
 
-module _ (s₀ : Session) (before : List Call) (start : Start) (after : List Call) where
+module _ (s₀ : Session) (before : List Call) (start : Start) where
   abbrev s : Session
   s = session_after s₀ before
 
   abbrev s' : Session
   s' = (step s (Call.Start start)).session
 
-  -- up to a call after the start
-  abbrev upto : List Call → List Call
-  upto bs = before ++ (Call.Start start ∷ bs)
-
-  taken_upto : (bs : List Call) (place : Place) → last_taken place (last_taken place Empty (events s₀ before)) (events s' bs) ≡ last_taken place Empty (events s₀ (upto bs))
+  -- a start brings nothing
+  taken_upto : (bs : List Call) (place : Place) → last_taken place (last_taken place Empty (events s₀ before)) (events s' bs) ≡ last_taken place Empty (events s₀ (before ++ (Call.Start start ∷ bs)))
   unfolding events last_taken brings
   taken_upto bs place =
       sym (places_joined place Empty (events s₀ before) (events s (Call.Start start ∷ bs)))
       ∙ ap (last_taken place Empty) (sym (events_joined s₀ before (Call.Start start ∷ bs)))
 
-  turn_sees : (earlier : List Turn) (t : Turn) (later : List Turn) → turns (seen_after nothing (events s₀ before)) (events s' after) ≡ earlier ++ (t ∷ later)
-      → (place : Place) (value : RegisterValue) (stamp : Instant) → t.sees place ≡ Held value stamp → SeesTaken s₀ (before ++ (Call.Start start ∷ after)) t place value stamp
-  turn_sees earlier t later is place value stamp holds =
-      let call = turn_calls t later after s' (seen_after nothing (events s₀ before)) earlier is in
-      record {
-        upto = upto call.before;
-        later = call.later;
-        whole = ap upto call.whole ∙ sym (append_assoc before (Call.Start start ∷ call.before) (Call.Answer t.answer ∷ call.later));
-        taken = origin (events s₀ (upto call.before)) place value stamp (sym (taken_upto call.before place) ∙ sym (call.saw place) ∙ holds);
-      }
+  turn_sees : (after : List Call) (earlier : List Turn) (t : Turn) (call : IsCall s' (seen_after nothing (events s₀ before)) after earlier t) (place : Place) (value : RegisterValue) (stamp : Instant)
+      → t.sees place ≡ Held value stamp → Taken place value stamp (events s₀ (before ++ (Call.Start start ∷ call.before)))
+  turn_sees after earlier t call place value stamp holds = origin (events s₀ (before ++ (Call.Start start ∷ call.before))) place value stamp (sym (taken_upto call.before place) ∙ sym (call.saw place) ∙ holds)
 
 -- ---- runs
 
@@ -195,7 +185,7 @@ laws = record {
   holds_last = holds_last;
   origin = origin;
   turn_calls = λ s sees cs earlier t later. turn_calls t later cs s sees earlier;
-  turn_sees = λ motor feedback s₀ fresh before start after. turn_sees s₀ before start after;
+  turn_sees = turn_sees;
   readings = λ s cs. readings cs s;
   bounded = λ motor feedback s fresh cs.
       let sound = fresh_sound motor feedback s fresh in

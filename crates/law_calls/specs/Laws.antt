@@ -89,20 +89,14 @@ pub record Taken (place : Place) (value : RegisterValue) (stamp : Instant) (vs :
   pub says : said frame ≡ Some (place, value)
   pub is_last : NoneTaken place later
 
--- the call that a turn is, among the calls from the session `s` on, and that it sees what was taken before it
-pub record IsCall (s : Session) (sees : Sees) (cs : List Call) (t : Turn) : Type 0 where
+-- the call that a turn is, among the calls from the session `s` on: the turns before it are those of the calls before it, and it sees what was taken by these
+pub record IsCall (s : Session) (sees : Sees) (cs : List Call) (earlier : List Turn) (t : Turn) : Type 0 where
   pub before : List Call
   pub later : List Call
   pub whole : cs ≡ before ++ (Call.Answer t.answer ∷ later)
-  pub returned : (step (session_after s before) (Call.Answer t.answer)).told ≡ Returned.Run t.gave.told
+  pub turns_before : turns sees (events s before) ≡ earlier
+  pub gave : event (session_after s before) (Call.Answer t.answer) ≡ record { call = Call.Answer t.answer; returned = Returned.Run t.gave.told; wants = t.gave.wants }
   pub saw : (place : Place) → t.sees place ≡ last_taken place (sees place) (events s before)
-
--- that call is made after the calls `upto` of the whole list from the session `s`, and what it sees at a place was taken among these
-pub record SeesTaken (s : Session) (cs : List Call) (t : Turn) (place : Place) (value : RegisterValue) (stamp : Instant) : Type 0 where
-  pub upto : List Call
-  pub later : List Call
-  pub whole : cs ≡ upto ++ (Call.Answer t.answer ∷ later)
-  pub taken : Taken place value stamp (events s upto)
 
 -- ---- readings
 
@@ -197,13 +191,12 @@ pub record Laws : Type 0 where
   pub holds_last : (motor feedback : ℕ) (s : Session) → Fresh motor feedback s → (cs : List Call) (place : Place) → held (session_after s cs) place ≡ last_taken place Empty (events s cs)
   pub origin : (cs : List Event) (place : Place) (value : RegisterValue) (stamp : Instant) → last_taken place Empty cs ≡ Held value stamp → Taken place value stamp cs
   -- a turn is a call in the list, and sees what was taken before it
-  pub turn_calls : (s : Session) (sees : Sees) (cs : List Call) (earlier : List Turn) (t : Turn) (later : List Turn) → turns sees (events s cs) ≡ earlier ++ (t ∷ later) → IsCall s sees cs t
-  -- so what a turn of a run sees of a register's replies or acks came by a frame of the list
-  pub turn_sees : (motor feedback : ℕ) (s₀ : Session) → Fresh motor feedback s₀ → (before : List Call) (start : Start) (after : List Call) →
+  pub turn_calls : (s : Session) (sees : Sees) (cs : List Call) (earlier : List Turn) (t : Turn) (later : List Turn) → turns sees (events s cs) ≡ earlier ++ (t ∷ later) → IsCall s sees cs earlier t
+  -- so what a turn of a run sees of a register's replies or acks came by a frame among the calls before it, from the list's first on
+  pub turn_sees : (s₀ : Session) (before : List Call) (start : Start) (after : List Call) (earlier : List Turn) (t : Turn) →
       (let s' = (step (session_after s₀ before) (Call.Start start)).session in
-      (earlier : List Turn) (t : Turn) (later : List Turn) → turns (seen_after nothing (events s₀ before)) (events s' after) ≡ earlier ++ (t ∷ later) →
-      (place : Place) (value : RegisterValue) (stamp : Instant) → t.sees place ≡ Held value stamp →
-      SeesTaken s₀ (before ++ (Call.Start start ∷ after)) t place value stamp)
+      (call : IsCall s' (seen_after nothing (events s₀ before)) after earlier t) (place : Place) (value : RegisterValue) (stamp : Instant) → t.sees place ≡ Held value stamp →
+      Taken place value stamp (events s₀ (before ++ (Call.Start start ∷ call.before))))
   -- accepted readings never fall, the last of them is the session's, and stamps are no later and never fall either
   pub readings : (s : Session) (cs : List Call) → Rising s.head.last (events s cs) × ((session_after s cs).head.last ≡ last_reading s.head.last (events s cs))
   pub bounded : (motor feedback : ℕ) (s : Session) → Fresh motor feedback s → (cs : List Call) →

@@ -32,7 +32,7 @@ module _ (h : Head) where
   abbrev pub gives_result : RunResult → Gave
   gives_result r = record { told = Ok (Told.Result r); wants = None }
 
-  -- an answer that the machine wants, accepted by a session whose last reading is no earlier than `l`
+  -- an answer that the machine wants, accepted by a session whose last reading is no earlier than `l`; `turn_calls` says which session, and so which record is the latest
   pub record Took (m : Machine) (l : Instant) (t : Turn) : Type 0 where
     pub head : Head
     pub since : l.0 ≤ head.last.0

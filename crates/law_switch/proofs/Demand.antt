@@ -37,10 +37,10 @@ use Rattle.law_calls.proofs.Lists.{none≢some}
 use Rattle.law_calls.proofs.Sessions.{list_sound, refused_leaves}
 use Rattle.law_calls.proofs.Started.{fresh_motor, fresh_sound}
 use Rattle.law_calls.proofs.Traced.{Traced, traced}
-use Rattle.law_switch.specs.Claim.{reads_mode, writes_mode, mode_read, mode_write, Bounded, EachSwitch, Claim}
+use Rattle.law_switch.specs.Claim.{wants_mode_read, wants_mode_write, mode_read, mode_write, OfSwitch, EachSwitch, Claim}
 use Rattle.law_switch.proofs.Ran.{machine, gave_want, gave_result, Ran, of_run, IsSwitch, stays_switch}
 use Rattle.law_switch.proofs.Started.{switching}
-use Rattle.law_switch.proofs.Success.{done_found, found_done}
+use Rattle.law_switch.proofs.Success.{as_from_none, done_found, found_done}
 use Rattle.law_switch.proofs.Told as Count
 
 -- ---- of one switch, by how it ran
@@ -76,23 +76,23 @@ module _ (h : Head) (mode : ControlMode) (timeout : Duration) (ts : List Turn) (
   unfolding a_want send_to
   reads_as = by_phase (mode_read motor) (counted 0 Count.mode_reads 0) (λ p. Count.reads_count h mode p) (λ r. refl)
 
-  reads_wanted : counted_in (λ g. wants_send reads_mode g.wants) ≡ wanted_in (counted 0 Count.mode_reads 0)
+  reads_wanted : counted_in (λ g. wants_send wants_mode_read g.wants) ≡ wanted_in (counted 0 Count.mode_reads 0)
   unfolding wants_send
-  reads_wanted = by_phase (λ g. wants_send reads_mode g.wants) (counted 0 Count.mode_reads 0) (λ p. Count.reads_weight h (switch_want mode p)) (λ r. refl)
+  reads_wanted = by_phase (λ g. wants_send wants_mode_read g.wants) (counted 0 Count.mode_reads 0) (λ p. Count.reads_weight h (switch_want mode p)) (λ r. refl)
 
   writes_as : counted_in (mode_write motor) ≡ wanted_in (counted 0 Count.mode_writes 0)
   unfolding a_want send_to
   writes_as = by_phase (mode_write motor) (counted 0 Count.mode_writes 0) (λ p. Count.writes_count h mode p) (λ r. refl)
 
-  writes_wanted : counted_in (λ g. wants_send writes_mode g.wants) ≡ wanted_in (counted 0 Count.mode_writes 0)
+  writes_wanted : counted_in (λ g. wants_send wants_mode_write g.wants) ≡ wanted_in (counted 0 Count.mode_writes 0)
   unfolding wants_send
-  writes_wanted = by_phase (λ g. wants_send writes_mode g.wants) (counted 0 Count.mode_writes 0) (λ p. Count.writes_weight h (switch_want mode p)) (λ r. refl)
+  writes_wanted = by_phase (λ g. wants_send wants_mode_write g.wants) (counted 0 Count.mode_writes 0) (λ p. Count.writes_weight h (switch_want mode p)) (λ r. refl)
 
   some_of : RunResult → Option RunResult → RunResult
   some_of r None = r
   some_of r (Some x) = x
 
-  pub bounded : Alone first ts end → AsWanted first ts → AtMost first ts 21 449 947 → Bounded motor (mode_number mode) first ts end
+  pub bounded : Alone first ts end → AsWanted first ts → AtMost first ts 21 449 947 → OfSwitch motor (mode_number mode) first ts end
   unfolding some_of result_in
   bounded alone wanted most =
       let within = bounds.switch mode timeout in
@@ -107,11 +107,11 @@ module _ (h : Head) (mode : ControlMode) (timeout : Duration) (ts : List Turn) (
         sleeps = λ m. omega (arith, most.sleeps m);
         ends = λ m e. omega (arith, most.ends m e);
         answerable = alone.answerable;
-        alone = alone.refuses;
+        refuses = alone.refuses;
         closes = alone.closes;
         success = λ r e. (
           λ done. done_found h mode timeout end ts l how (subst (λ (x : RunResult). result_of ts ≡ Some x) done e),
-          λ f. ap (some_of r) (sym e ∙ found_done h mode timeout end ts Starting l None how (λ o is. absurd (none≢some is)) f),
+          λ f. ap (some_of r) (sym e ∙ found_done h mode timeout end ts Starting l None how (λ o is. absurd (none≢some is)) (as_from_none motor (mode_number mode) first ts f)),
         );
       }
 
@@ -152,5 +152,5 @@ each_switch P holds motor feedback s₀ fresh before n timeout after w e accepte
 pub claim : Claim
 claim = record {
   refusals = refused_leaves;
-  switches = each_switch Bounded (λ h mode timeout ts end x. bounded h mode timeout ts end h.last x.steps x.alone x.as_wanted x.at_most);
+  switches = each_switch OfSwitch (λ h mode timeout ts end x. bounded h mode timeout ts end h.last x.steps x.alone x.as_wanted x.at_most);
 }

@@ -54,7 +54,7 @@ use Rattle.switch_stage.specs.declared.Switch.TheVariants.{Starting, Begun}
 use Rattle.law_runs.specs.Ends.{wait_opening, HoldsFresh, Look, Since, GetSaw}
 use Rattle.law_runs.proofs.Ends.{get_saw}
 use Rattle.law_calls.specs.Turns.{wants_send}
-use Rattle.law_switch.specs.Claim.{reads_mode}
+use Rattle.law_switch.specs.Claim.{wants_mode_read}
 
 -- the read of register 10 that a phase is in
 abbrev pub mode_ask : Switch → Option Ask
@@ -91,8 +91,8 @@ module _ (mode : ControlMode) where
   in_read p ask e = subst (About p) e (about p)
 
   -- and only a read that is to be sent wants the send of a read of register 10
-  pub ask_of : (p : Switch) → wants_send reads_mode (Some (switch_want mode p)) ≡ true → (o : Instant) × (mode_ask p ≡ Some (Sending o))
-  unfolding wants_send reads_mode
+  pub ask_of : (p : Switch) → wants_send wants_mode_read (Some (switch_want mode p)) ≡ true → (o : Instant) × (mode_ask p ≡ Some (Sending o))
+  unfolding wants_send wants_mode_read
   ask_of Starting e = absurd (true≢false (sym e))
   ask_of (Begun p (Remaining which)) e = absurd (true≢false (sym e))
   ask_of (Begun p (Reading which l Opening)) e = absurd (true≢false (sym e))

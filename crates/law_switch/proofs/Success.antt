@@ -41,7 +41,7 @@ use Rattle.run_want.specs.Step.{Stepped}
 use Rattle.std.specs.declared.ops.ControlFlow.TheVariants.{Continue, Break}
 use Rattle.motor_core.proofs.Turned.{clash}
 use Rattle.law_calls.specs.Turns.{Gave, Turn, gaves, once, count, a_send, wants_send, result_of, reading_or, gave_after, reading_after, a_want, send_to}
-use Rattle.law_switch.specs.Claim.{reads_mode, mode_read, Looks, Found}
+use Rattle.law_switch.specs.Claim.{wants_mode_read, mode_read, Looks, Found}
 use Rattle.law_switch.proofs.ModeReads.{mode_ask, in_read, ask_of, Saw, Entered, Law, switch_law, EndsDone, ends_done, Quiet, WantsSend, StaysQuiet, sending_quiet, stays_quiet, quiet_sleep}
 use Rattle.law_switch.proofs.Ran.{machine, gave_want, gave_result, seen, sees_mode, Took, Onward, onward_cases, Ran}
 use Rattle.law_switch.proofs.Told.{reads_alike}
@@ -107,6 +107,28 @@ first_zero a b e = omega arith
 rest_zero : (a b : ℕ) → a + b ≡ 0 → b ≡ 0
 rest_zero a b e = omega arith
 
+-- what `Found` says, where the last reading accepted before all these turns is `so_far`
+pub record FoundFrom (motor mode : ℕ) (so_far : Option Instant) (first : Gave) (ts : List Turn) : Type 0 where
+  before : List Turn
+  waited : List Turn
+  look : Turn
+  later : List Turn
+  opening : Instant
+  stamp : Instant
+  whole : ts ≡ before ++ (waited ++ (look ∷ later))
+  read : mode_read motor (gave_after first before) ≡ true
+  is_last : count (mode_read motor) (gaves (waited ++ (look ∷ later))) ≡ 0
+  opens : reading_after so_far before ≡ Some opening
+  looks : Looks waited look.answer
+  finds : look.sees (Reply 10) ≡ Held (UInt32 mode) stamp
+  fresh : opening.0 ≤ stamp.0
+
+from_none : (motor mode : ℕ) (first : Gave) (ts : List Turn) → FoundFrom motor mode None first ts → Found motor mode first ts
+from_none motor mode first ts f = record { before = f.before; waited = f.waited; look = f.look; later = f.later; opening = f.opening; stamp = f.stamp; whole = f.whole; read = f.read; is_last = f.is_last; opens = f.opens; looks = f.looks; finds = f.finds; fresh = f.fresh }
+
+pub as_from_none : (motor mode : ℕ) (first : Gave) (ts : List Turn) → Found motor mode first ts → FoundFrom motor mode None first ts
+as_from_none motor mode first ts f = record { before = f.before; waited = f.waited; look = f.look; later = f.later; opening = f.opening; stamp = f.stamp; whole = f.whole; read = f.read; is_last = f.is_last; opens = f.opens; looks = f.looks; finds = f.finds; fresh = f.fresh }
+
 module _ (h : Head) (mode : ControlMode) (timeout : Duration) where
   abbrev motor : ℕ
   motor = h.motor_id
@@ -118,7 +140,7 @@ module _ (h : Head) (mode : ControlMode) (timeout : Duration) where
   want_of p = gave_want h mode timeout p
 
   abbrev Succeeds : Option Instant → Gave → List Turn → Type 0
-  Succeeds r g ts = Found motor number r g ts
+  Succeeds r g ts = FoundFrom motor number r g ts
 
   -- counted of one turn
   abbrev reads_in : Gave → ℕ
@@ -132,8 +154,8 @@ module _ (h : Head) (mode : ControlMode) (timeout : Duration) where
 
   -- what a read that is sent wants is a read of register 10
   pub is_read : (p : Switch) (o : Instant) → mode_ask p ≡ Some (Sending o) → mode_read motor (want_of p) ≡ true
-  unfolding wants_send reads_mode
-  is_read p o e = reads_alike h mode p ∙ ap (λ (w : Want Message). wants_send reads_mode (Some w)) (in_read mode p (Sending o) e).0
+  unfolding wants_send wants_mode_read
+  is_read p o e = reads_alike h mode p ∙ ap (λ (w : Want Message). wants_send wants_mode_read (Some w)) (in_read mode p (Sending o) e).0
 
   -- and what it wants in its wait is no send
   no_read : (w : Want Message) (x : Wait) → w ≡ wait_want x → reads_in (record { told = Ok (Told.Want (caller_want h w)); wants = Some w }) ≡ 0
@@ -307,11 +329,11 @@ module _ (h : Head) (mode : ControlMode) (timeout : Duration) where
       onward_sought p l r opened t ts k (λ q. Ran h mode timeout z q l' ts) (λ q ran o d. sought z ts q l' (reading_or t.answer r) ran o d) (switch_step mode timeout (seen p t) p t.answer) refl on done
 
   -- from the start on
-  pub done_found : (z : Session) (ts : List Turn) (l : Instant) → Ran h mode timeout z Starting l ts → result_of ts ≡ Some (Ok Outcome.Done) → Succeeds None (want_of Starting) ts
+  pub done_found : (z : Session) (ts : List Turn) (l : Instant) → Ran h mode timeout z Starting l ts → result_of ts ≡ Some (Ok Outcome.Done) → Found motor number (want_of Starting) ts
   done_found z ts l ran done = go (sought z ts Starting l None ran (λ o e. absurd (none≢some e)) done)
     where
-      go : Sought None Starting ts → Succeeds None (want_of Starting) ts
-      go (inl f) = f
+      go : Sought None Starting ts → Found motor number (want_of Starting) ts
+      go (inl f) = from_none motor number (want_of Starting) ts f
       go (inr (w, e, x)) = absurd (none≢some e)
 
   -- ---- found, so done

@@ -33,7 +33,7 @@ use Rattle.run_want.specs.declared.Want.TheVariants as Wanted
 use Rattle.law_runs.specs.Trace.{Label, label, counted}
 use Rattle.law_calls.specs.Turns.{Gave, once, wants_send, any, a_want, send_to}
 use Rattle.law_calls.proofs.Traced.{message_weight}
-use Rattle.law_switch.specs.Claim.{mode_read, mode_write, read_bytes, write_bytes, shared, on_7ff, reads_mode, writes_mode}
+use Rattle.law_switch.specs.Claim.{mode_read, mode_write, read_bytes, write_bytes, shares_7ff, on_7ff, wants_mode_read, wants_mode_write}
 
 -- a switch reads registers 10 and 80, writes the mode to 10, and sends no other request
 abbrev pub Own : ControlMode → Want Message → Type 0
@@ -123,22 +123,22 @@ module _ (motor : ℕ) where
   read_no_write rid = ne_eqb (register_read_data motor rid / 2 ^ 32) (register_write_data motor 10 0 / 2 ^ 32) (λ e. omega (arith, e))
 
   -- a setpoint goes to 0x7FF only from the ids that share it
-  hold_off : (mode : ControlMode) → shared motor ≡ false → eqb (hold_id motor mode) 0x7ff ≡ false
-  unfolding shared
+  hold_off : (mode : ControlMode) → shares_7ff motor ≡ false → eqb (hold_id motor mode) 0x7ff ≡ false
+  unfolding shares_7ff
   hold_off mode off = ne_eqb (hold_id motor mode) 0x7ff (λ e. true≢false (sym (at mode e) ∙ off))
     where
-      at : (m : ControlMode) → hold_id motor m ≡ 0x7ff → shared motor ≡ true
-      at Mit e = ap shared e
-      at PosVel e = let is : motor ≡ 0x6ff = omega arith in ap shared is
-      at Vel e = let is : motor ≡ 0x5ff = omega arith in ap shared is
-      at ForcePos e = let is : motor ≡ 0x4ff = omega arith in ap shared is
+      at : (m : ControlMode) → hold_id motor m ≡ 0x7ff → shares_7ff motor ≡ true
+      at Mit e = ap shares_7ff e
+      at PosVel e = let is : motor ≡ 0x6ff = omega arith in ap shares_7ff is
+      at Vel e = let is : motor ≡ 0x5ff = omega arith in ap shares_7ff is
+      at ForcePos e = let is : motor ≡ 0x4ff = omega arith in ap shares_7ff is
 
   -- so it is neither, by its id or by what the definition wants
-  hold_neither : (of : ℕ → Bool) (mode : ControlMode) (bytes : ℕ) → (on_7ff of (Ok (Told.Want (Wanted.Send (command (hold_id motor mode) bytes)))) && (not (shared motor) || false)) ≡ false
+  hold_neither : (of : ℕ → Bool) (mode : ControlMode) (bytes : ℕ) → (on_7ff of (Ok (Told.Want (Wanted.Send (command (hold_id motor mode) bytes)))) && (not (shares_7ff motor) || false)) ≡ false
   unfolding a_want send_to
-  hold_neither of mode bytes = go (shared motor) refl
+  hold_neither of mode bytes = go (shares_7ff motor) refl
     where
-      go : (b : Bool) → shared motor ≡ b → ((eqb (hold_id motor mode) 0x7ff && of bytes) && (not b || false)) ≡ false
+      go : (b : Bool) → shares_7ff motor ≡ b → ((eqb (hold_id motor mode) 0x7ff && of bytes) && (not b || false)) ≡ false
       go true e = both_false (eqb (hold_id motor mode) 0x7ff && of bytes)
       go false e = ap (λ (x : Bool). (x && of bytes) && true) (hold_off mode e)
 
@@ -150,14 +150,14 @@ module _ (h : Head) where
   abbrev motor : ℕ
   motor = h.motor_id
 
-  reads_own : (mode : ControlMode) (w : Want Message) → Own mode w → mode_read motor (gives_want w) ≡ wants_send reads_mode (Some w)
-  unfolding a_want send_to wants_send reads_mode any
+  reads_own : (mode : ControlMode) (w : Want Message) → Own mode w → mode_read motor (gives_want w) ≡ wants_send wants_mode_read (Some w)
+  unfolding a_want send_to wants_send wants_mode_read any
   reads_own mode Clock o = refl
   reads_own mode (Send (ReadRegister rid)) (inl e) =
-      subst (λ (r : ℕ). mode_read motor (gives_want (Send (ReadRegister r))) ≡ wants_send reads_mode (Some (Send (ReadRegister r)))) (sym e)
-      (λ i. eq-eqb (register_read_data motor 10) (register_read_data motor 10) refl i && or_true (not (shared motor)) i)
+      subst (λ (r : ℕ). mode_read motor (gives_want (Send (ReadRegister r))) ≡ wants_send wants_mode_read (Some (Send (ReadRegister r)))) (sym e)
+      (λ i. eq-eqb (register_read_data motor 10) (register_read_data motor 10) refl i && or_true (not (shares_7ff motor)) i)
   reads_own mode (Send (ReadRegister rid)) (inr e) =
-      subst (λ (r : ℕ). mode_read motor (gives_want (Send (ReadRegister r))) ≡ wants_send reads_mode (Some (Send (ReadRegister r)))) (sym e)
+      subst (λ (r : ℕ). mode_read motor (gives_want (Send (ReadRegister r))) ≡ wants_send wants_mode_read (Some (Send (ReadRegister r)))) (sym e)
       (left_false (eqb (register_read_data motor 80) (register_read_data motor 10)) _ (read_80 motor))
   reads_own mode (Send (WriteRegister rid bits)) o =
       left_false (eqb (register_write_data motor rid bits) (register_read_data motor 10)) _
@@ -168,13 +168,13 @@ module _ (h : Head) where
   reads_own mode (Send (Setpoint m position)) o = hold_neither motor (read_bytes motor) m (hold_data h.limits m position.0)
   reads_own mode (Sleep length) o = refl
 
-  writes_own : (mode : ControlMode) (w : Want Message) → Own mode w → mode_write motor (gives_want w) ≡ wants_send writes_mode (Some w)
-  unfolding a_want send_to wants_send writes_mode
+  writes_own : (mode : ControlMode) (w : Want Message) → Own mode w → mode_write motor (gives_want w) ≡ wants_send wants_mode_write (Some w)
+  unfolding a_want send_to wants_send wants_mode_write
   writes_own mode Clock o = refl
   writes_own mode (Send (ReadRegister rid)) o = left_false (write_bytes motor (register_read_data motor rid)) _ (read_no_write motor rid)
   writes_own mode (Send (WriteRegister rid bits)) o =
-      (λ i. write_bytes motor (register_write_data motor (o.0 i) (o.1 i)) && (not (shared motor) || eqb (o.0 i) 10))
-      ∙ (λ i. a_write motor mode i && or_true (not (shared motor)) i)
+      (λ i. write_bytes motor (register_write_data motor (o.0 i) (o.1 i)) && (not (shares_7ff motor) || eqb (o.0 i) 10))
+      ∙ (λ i. a_write motor mode i && or_true (not (shares_7ff motor)) i)
       ∙ sym (ap (λ (r : ℕ). eqb r 10) o.0)
   writes_own mode (Send RequestFeedback) o = absurd o
   writes_own mode (Send Disable) o = absurd o
@@ -182,14 +182,14 @@ module _ (h : Head) where
   writes_own mode (Send (Setpoint m position)) o = hold_neither motor (write_bytes motor) m (hold_data h.limits m position.0)
   writes_own mode (Sleep length) o = refl
 
-  pub reads_alike : (mode : ControlMode) (p : Switch) → mode_read motor (gives_want (switch_want mode p)) ≡ wants_send reads_mode (Some (switch_want mode p))
+  pub reads_alike : (mode : ControlMode) (p : Switch) → mode_read motor (gives_want (switch_want mode p)) ≡ wants_send wants_mode_read (Some (switch_want mode p))
   reads_alike mode p = reads_own mode (switch_want mode p) (own mode p)
 
-  pub writes_alike : (mode : ControlMode) (p : Switch) → mode_write motor (gives_want (switch_want mode p)) ≡ wants_send writes_mode (Some (switch_want mode p))
+  pub writes_alike : (mode : ControlMode) (p : Switch) → mode_write motor (gives_want (switch_want mode p)) ≡ wants_send wants_mode_write (Some (switch_want mode p))
   writes_alike mode p = writes_own mode (switch_want mode p) (own mode p)
 
-  of_label : (m : Message) → (once (reads_mode m) ≡ mode_reads (label m)) × (once (writes_mode m) ≡ mode_writes (label m))
-  unfolding reads_mode writes_mode
+  of_label : (m : Message) → (once (wants_mode_read m) ≡ mode_reads (label m)) × (once (wants_mode_write m) ≡ mode_writes (label m))
+  unfolding wants_mode_read wants_mode_write
   of_label (ReadRegister rid) = (refl, refl)
   of_label (WriteRegister rid bits) = (refl, refl)
   of_label RequestFeedback = (refl, refl)
@@ -197,11 +197,11 @@ module _ (h : Head) where
   of_label StoreParams = (refl, refl)
   of_label (Setpoint m position) = (refl, refl)
 
-  pub reads_weight : (w : Want Message) → once (wants_send reads_mode (Some w)) ≡ counted 0 mode_reads 0 w
-  reads_weight = message_weight h reads_mode mode_reads (λ m. (of_label m).0)
+  pub reads_weight : (w : Want Message) → once (wants_send wants_mode_read (Some w)) ≡ counted 0 mode_reads 0 w
+  reads_weight = message_weight h wants_mode_read mode_reads (λ m. (of_label m).0)
 
-  pub writes_weight : (w : Want Message) → once (wants_send writes_mode (Some w)) ≡ counted 0 mode_writes 0 w
-  writes_weight = message_weight h writes_mode mode_writes (λ m. (of_label m).1)
+  pub writes_weight : (w : Want Message) → once (wants_send wants_mode_write (Some w)) ≡ counted 0 mode_writes 0 w
+  writes_weight = message_weight h wants_mode_write mode_writes (λ m. (of_label m).1)
 
   pub reads_count : (mode : ControlMode) (p : Switch) → once (mode_read motor (gives_want (switch_want mode p))) ≡ counted 0 mode_reads 0 (switch_want mode p)
   reads_count mode p = ap once (reads_alike mode p) ∙ reads_weight (switch_want mode p)

@@ -16,11 +16,11 @@ use Rattle.session_call.specs.Step.{step}
 use Rattle.law_calls.specs.Calls.{of_limits, events, session_after}
 use Rattle.law_calls.specs.Places.{frame_brings, brings, last_taken}
 use Rattle.law_calls.specs.Turns.{turn_in, turn_of, add_turn, turns, turns_after, result_in, result_of, gaves, count, a_want, send_to, wants_send}
-use Rattle.law_switch.specs.Claim.{shared, reads_mode, writes_mode}
+use Rattle.law_switch.specs.Claim.{shares_7ff, wants_mode_read, wants_mode_write}
 use Rattle.law_switch.specs.Worked.{maxima, Worked}
 
 pub worked : Worked
-unfolding le limits_of limit_accepted registers elem known info_of access_of data_type_of writable whole_number of_type type_of same_value frame_for packed_onto little_endian bytes register_read_data register_write_data addressed class received register_value value_of fresh from_limits take_frame answer_run step events session_after frame_brings brings last_taken turn_in turn_of add_turn turns turns_after result_in result_of gaves count a_want send_to wants_send shared reads_mode writes_mode
+unfolding le limits_of limit_accepted registers elem known info_of access_of data_type_of writable whole_number of_type type_of same_value frame_for packed_onto little_endian bytes register_read_data register_write_data addressed class received register_value value_of fresh from_limits take_frame answer_run step events session_after frame_brings brings last_taken turn_in turn_of add_turn turns turns_after result_in result_of gaves count a_want send_to wants_send shares_7ff wants_mode_read wants_mode_write
 worked = record {
   starts = of_limits maxima refl;
   accepted = refl;

@@ -26,15 +26,15 @@ use Rattle.session.specs.declared.Session.{Session}
 use Rattle.session_step.specs.Parts.{with_reading}
 use Rattle.session_step.specs.declared.Told.TheVariants as Told
 use Rattle.law_calls.specs.Turns.{Gave, Turn, gaves, a_want, wants_send}
-use Rattle.law_switch.specs.Claim.{writes_mode, mode_write, EachSwitch}
+use Rattle.law_switch.specs.Claim.{wants_mode_write, mode_write, EachSwitch}
 use Rattle.law_switch.specs.Written.{OfMode, AllOfMode, FirstReads, Written}
 use Rattle.law_switch.proofs.Demand.{each_switch}
 use Rattle.law_switch.proofs.Ran.{gave_want, gave_result, seen, onward_cases, Ran, of_run}
 use Rattle.law_switch.proofs.Told.{Own, own, gives_want, writes_alike}
 
 module _ (h : Head) (mode : ControlMode) where
-  own_write : (w : Want Message) → Own mode w → wants_send writes_mode (Some w) ≡ true → OfMode h.motor_id (mode_number mode) (gives_want h w)
-  unfolding wants_send writes_mode
+  own_write : (w : Want Message) → Own mode w → wants_send wants_mode_write (Some w) ≡ true → OfMode h.motor_id (mode_number mode) (gives_want h w)
+  unfolding wants_send wants_mode_write
   own_write Clock o e = absurd (true≢false (sym e))
   own_write (Send (ReadRegister rid)) o e = absurd (true≢false (sym e))
   own_write (Send (WriteRegister rid bits)) (r, b) e = record {

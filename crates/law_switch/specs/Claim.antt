@@ -1,5 +1,5 @@
 -- Demand 3: what holds of every mode switch in every list of calls on one session: the last paragraph of document 01's 'The runs'. It stands on `law_calls`: `Calls` has the list, `Places` the last replies and acks that were taken, `Turns` a run's turns with its wants, its result and its sleeps. It speaks of the calls and of what they returned; the run's definition is asked only for what it wants. Definitions only.
-use Rattle.std.specs.Prelude.{ℕ, ◌/◌, ◌^◌, ◌≤◌, ◌<◌, ◌≡◌, Bool, true, false, not, ◌&&◌, ◌||◌, ◌↔◌, List, [], ◌∷◌, ◌++◌, eqb, length, None, Option, Some, Ok, Err}
+use Rattle.std.specs.Prelude.{ℕ, ◌/◌, ◌^◌, ◌≤◌, ◌<◌, ◌≡◌, Bool, true, false, not, ◌&&◌, ◌||◌, ◌↔◌, List, [], ◌∷◌, ◌++◌, eqb, length, None, Some, Ok, Err}
 use Rattle.motor_core.specs.declared.error.Refusal.TheVariants.{RunOpen}
 use Rattle.time.specs.declared.Instant.{Instant}
 use Rattle.time.specs.declared.Duration.{Duration}
@@ -36,31 +36,31 @@ abbrev pub write_bytes : ℕ → ℕ → Bool
 write_bytes motor bytes = eqb (bytes / 2 ^ 32) (register_write_data motor 10 0 / 2 ^ 32)
 
 -- the motor ids that put a setpoint frame on 0x7FF too
-unfoldable pub shared : ℕ → Bool
-shared motor = eqb motor 0x7ff || (eqb motor 0x6ff || (eqb motor 0x5ff || eqb motor 0x4ff))
+unfoldable pub shares_7ff : ℕ → Bool
+shares_7ff motor = eqb motor 0x7ff || (eqb motor 0x6ff || (eqb motor 0x5ff || eqb motor 0x4ff))
 
-unfoldable pub reads_mode : Message → Bool
-reads_mode (ReadRegister rid) = eqb rid 10
-reads_mode (WriteRegister rid bits) = false
-reads_mode RequestFeedback = false
-reads_mode Disable = false
-reads_mode StoreParams = false
-reads_mode (Setpoint mode position) = false
+unfoldable pub wants_mode_read : Message → Bool
+wants_mode_read (ReadRegister rid) = eqb rid 10
+wants_mode_read (WriteRegister rid bits) = false
+wants_mode_read RequestFeedback = false
+wants_mode_read Disable = false
+wants_mode_read StoreParams = false
+wants_mode_read (Setpoint mode position) = false
 
-unfoldable pub writes_mode : Message → Bool
-writes_mode (ReadRegister rid) = false
-writes_mode (WriteRegister rid bits) = eqb rid 10
-writes_mode RequestFeedback = false
-writes_mode Disable = false
-writes_mode StoreParams = false
-writes_mode (Setpoint mode position) = false
+unfoldable pub wants_mode_write : Message → Bool
+wants_mode_write (ReadRegister rid) = false
+wants_mode_write (WriteRegister rid bits) = eqb rid 10
+wants_mode_write RequestFeedback = false
+wants_mode_write Disable = false
+wants_mode_write StoreParams = false
+wants_mode_write (Setpoint mode position) = false
 
 -- A read or write of register 10 is its frame on 0x7FF; where a setpoint frame may be the same, only if the definition wants that command.
 abbrev pub mode_read : ℕ → Gave → Bool
-mode_read motor g = on_7ff (read_bytes motor) g.told && (not (shared motor) || wants_send reads_mode g.wants)
+mode_read motor g = on_7ff (read_bytes motor) g.told && (not (shares_7ff motor) || wants_send wants_mode_read g.wants)
 
 abbrev pub mode_write : ℕ → Gave → Bool
-mode_write motor g = on_7ff (write_bytes motor) g.told && (not (shared motor) || wants_send writes_mode g.wants)
+mode_write motor g = on_7ff (write_bytes motor) g.told && (not (shares_7ff motor) || wants_send wants_mode_write g.wants)
 
 -- ---- success: what the last read of register 10 found
 
@@ -69,8 +69,8 @@ unfoldable pub Looks : List Turn → Answer → Type 0
 Looks [] a = a ≡ Answer.Send (Ok tt)
 Looks (u ∷ us) a = (u.answer ≡ Answer.Send (Ok tt)) × (count (λ g. a_send g.told) (gaves (u ∷ us)) ≡ 0) × (a ≡ Answer.Slept)
 
--- The last read of register 10 is wanted after the turns `before` and opens with the last reading accepted by then; its look in the turn `look` finds a reply that holds the mode, stamped no earlier. `so_far` is the last reading accepted before all these turns.
-pub record Found (motor mode : ℕ) (so_far : Option Instant) (first : Gave) (ts : List Turn) : Type 0 where
+-- The last read of register 10 is wanted after the turns `before` and opens with the last reading accepted by then; its look in the turn `look` finds a reply that holds the mode, stamped no earlier.
+pub record Found (motor mode : ℕ) (first : Gave) (ts : List Turn) : Type 0 where
   pub before : List Turn
   pub waited : List Turn
   pub look : Turn
@@ -80,7 +80,7 @@ pub record Found (motor mode : ℕ) (so_far : Option Instant) (first : Gave) (ts
   pub whole : ts ≡ before ++ (waited ++ (look ∷ later))
   pub read : mode_read motor (gave_after first before) ≡ true
   pub is_last : count (mode_read motor) (gaves (waited ++ (look ∷ later))) ≡ 0
-  pub opens : reading_after so_far before ≡ Some opening
+  pub opens : reading_after None before ≡ Some opening
   pub looks : Looks waited look.answer
   pub finds : look.sees (Reply 10) ≡ Held (UInt32 mode) stamp
   pub fresh : opening.0 ≤ stamp.0
@@ -88,14 +88,14 @@ pub record Found (motor mode : ℕ) (so_far : Option Instant) (first : Gave) (ts
 -- ---- the claim
 
 -- Of one switch: what its calls gave, from its start on; its turns after that; and the session at the end of the list.
-pub record Bounded (motor mode : ℕ) (first : Gave) (ts : List Turn) (end : Session) : Type 0 where
+pub record OfSwitch (motor mode : ℕ) (first : Gave) (ts : List Turn) (end : Session) : Type 0 where
   -- at most four reads of register 10, nine writes of it and 21 sends
   pub reads : count (mode_read motor) (first ∷ gaves ts) ≤ 4
   pub writes : count (mode_write motor) (first ∷ gaves ts) ≤ 9
   pub sends : count (λ g. a_send g.told) (first ∷ gaves ts) ≤ 21
   -- the definition counts the same
-  pub reads_wanted : count (mode_read motor) (first ∷ gaves ts) ≡ count (λ g. wants_send reads_mode g.wants) (first ∷ gaves ts)
-  pub writes_wanted : count (mode_write motor) (first ∷ gaves ts) ≡ count (λ g. wants_send writes_mode g.wants) (first ∷ gaves ts)
+  pub reads_wanted : count (mode_read motor) (first ∷ gaves ts) ≡ count (λ g. wants_send wants_mode_read g.wants) (first ∷ gaves ts)
+  pub writes_wanted : count (mode_write motor) (first ∷ gaves ts) ≡ count (λ g. wants_send wants_mode_write g.wants) (first ∷ gaves ts)
   pub sends_wanted : count (λ g. a_send g.told) (first ∷ gaves ts) ≡ count (λ g. wants_send any g.wants) (first ∷ gaves ts)
   pub sleeps_wanted : count (λ g. a_sleep g.told) (first ∷ gaves ts) ≡ count (λ g. wants_sleep g.wants) (first ∷ gaves ts)
   -- if its sleeps move the clock on, at most 449 of them, and while it has no result fewer than 947 accepted answers
@@ -103,10 +103,10 @@ pub record Bounded (motor mode : ℕ) (first : Gave) (ts : List Turn) (end : Ses
   pub ends : AllMove None first.told ts → result first ts ≡ None → length ts < 947
   -- while it has none, some answer is accepted, and every start is refused with 8, so that its turns are its own; with it the run is closed
   pub answerable : result first ts ≡ None → (a : Answer) × (w : Answered) × ((step end (Call.Answer a)).told ≡ Returned.Run w) × Accepted w
-  pub alone : result first ts ≡ None → (other : Start) → (step end (Call.Start other)).told ≡ Returned.Run (Err RunOpen)
+  pub refuses : result first ts ≡ None → (other : Start) → (step end (Call.Start other)).told ≡ Returned.Run (Err RunOpen)
   pub closes : (r : RunResult) → result first ts ≡ Some r → (gave_after first ts).wants ≡ None
   -- done exactly if the last read of register 10 found the mode
-  pub success : (r : RunResult) → result first ts ≡ Some r → (r ≡ Ok Done) ↔ Found motor mode None first ts
+  pub success : (r : RunResult) → result first ts ≡ Some r → (r ≡ Ok Done) ↔ Found motor mode first ts
 
 -- each switch, by its accepted start, in each list of calls from a fresh session
 abbrev pub EachSwitch : (ℕ → ℕ → Gave → List Turn → Session → Type 0) → Type 0
@@ -122,4 +122,4 @@ EachSwitch P = (motor feedback : ℕ) (s₀ : Session) → Fresh motor feedback 
 pub record Claim : Type 0 where
   -- a refused call leaves the session that it got
   pub refusals : (s : Session) (c : Call) → IsRefusal (step s c).told → (step s c).session ≡ s
-  pub switches : EachSwitch Bounded
+  pub switches : EachSwitch OfSwitch

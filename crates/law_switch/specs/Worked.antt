@@ -1,4 +1,4 @@
--- A mode switch worked out: motor 1 is asked for its mode and says 3, by a frame that comes before its send is answered. A reply of another mode came before the switch; with that alone it goes on. Definitions only.
+-- A mode switch worked out: motor 1 is asked for its mode and says 3, by a frame that comes before its send is answered. A reply of the same mode came before the switch, too early; with that alone it goes on. Definitions only.
 use Rattle.std.specs.Prelude.{ℕ, ◌≡◌, false, List, [], ◌∷◌, length, None, Some, Ok}
 use Rattle.std.specs.Float.{fin}
 use Rattle.std.specs.Prelude.{pos}
@@ -46,7 +46,7 @@ abbrev pub sent : Call
 sent = Call.Answer (Send (Ok tt))
 
 abbrev pub before : List Call
-before = says_mode 1 4 ∷ []
+before = says_mode 3 4 ∷ []
 
 abbrev pub begins : Call
 begins = Call.Start (EnsureControlMode 3 (millis 400))
@@ -54,11 +54,11 @@ begins = Call.Start (EnsureControlMode 3 (millis 400))
 abbrev pub asked : List Call
 asked = clock 5 ∷ clock 5 ∷ clock 5 ∷ []
 
-abbrev pub told : List Call
-told = clock 5 ∷ clock 5 ∷ clock 5 ∷ says_mode 3 6 ∷ sent ∷ []
+abbrev pub with_reply : List Call
+with_reply = clock 5 ∷ clock 5 ∷ clock 5 ∷ says_mode 3 6 ∷ sent ∷ []
 
-abbrev pub unheard : List Call
-unheard = clock 5 ∷ clock 5 ∷ clock 5 ∷ sent ∷ []
+abbrev pub without_reply : List Call
+without_reply = clock 5 ∷ clock 5 ∷ clock 5 ∷ sent ∷ []
 
 -- its turns, with these calls after its start
 abbrev pub begun : Session
@@ -80,10 +80,10 @@ pub record Worked : Type 0 where
   pub accepted : (event (session_after session before) begins).returned ≡ Returned.Run first.told
   pub asks : count (mode_read 1) (first ∷ gaves (turns_with asked)) ≡ 1
   -- it finds the mode
-  pub four_turns : length (turns_with told) ≡ 4
-  pub done : result first (turns_with told) ≡ Some (Ok Done)
-  pub sees : seen_last (turns_with told) ≡ Held (UInt32 3) (record { 0 = 6 })
-  pub no_write : count (mode_write 1) (first ∷ gaves (turns_with told)) ≡ 0
-  -- it sees the earlier reply, which holds another mode, and is not done
-  pub sees_earlier : seen_last (turns_with unheard) ≡ Held (UInt32 1) (record { 0 = 4 })
-  pub not_done : result first (turns_with unheard) ≡ None
+  pub four_turns : length (turns_with with_reply) ≡ 4
+  pub done : result first (turns_with with_reply) ≡ Some (Ok Done)
+  pub sees : seen_last (turns_with with_reply) ≡ Held (UInt32 3) (record { 0 = 6 })
+  pub no_write : count (mode_write 1) (first ∷ gaves (turns_with with_reply)) ≡ 0
+  -- it sees the earlier reply, and is not done
+  pub sees_earlier : seen_last (turns_with without_reply) ≡ Held (UInt32 3) (record { 0 = 4 })
+  pub not_done : result first (turns_with without_reply) ≡ None

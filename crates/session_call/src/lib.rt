@@ -2,15 +2,20 @@
 #![tactic(auto)]
 
 ghost use Rattle.std.specs.Prelude.{◌≡◌};
+ghost use Rattle.session_begin.specs.Begin.{begin};
 ghost use Rattle.session_call.specs.Step as Spec;
 
 use motor_core::bus::CanFrame;
 use motor_core::error::Refusal;
 use run_want::Answer;
-use session::{After, Session, patch_lent};
-use session_answer::answer_lent;
-use session_begin::{Start, begin_lent};
-use session_lent::process_feedback_frame;
+use session::{After, AfterPatch, Session, patch_latest, patch_lent};
+use session_answer::{AfterCall, answer_lent, answer_run};
+use session_begin::{
+    Start, begin_lent, ensure_control_mode, get_register_f32, get_register_u32,
+    request_fresh_state, store_parameters, write_register_f32, write_register_u32,
+};
+use session_frame::AfterFrame;
+use session_lent::{process_feedback_frame, take_frame};
 use session_step::Told;
 use time::Instant;
 
@@ -52,11 +57,54 @@ pub fn step_lent(session: &mut Session, call: Call) -> Returned
     }
 }
 
-// The same for a session that goes by value: it is lent for the call and handed back, in two lines for the
-// reason at `After`.
-pub fn step(mut session: Session, call: Call) -> AfterStep
+// A start by its own entry, for a session that goes by value.
+fn started(session: Session, start: Start) -> AfterCall
+    ensures { result ≡ begin session start }
+{
+    match start {
+        Start::GetRegisterU32(rid, timeout) => get_register_u32(session, rid, timeout),
+        Start::GetRegisterF32(rid, timeout) => get_register_f32(session, rid, timeout),
+        Start::WriteRegisterU32(rid, value) => write_register_u32(session, rid, value),
+        Start::WriteRegisterF32(rid, value) => write_register_f32(session, rid, value),
+        Start::RequestFreshState(timeout) => request_fresh_state(session, timeout),
+        Start::StoreParameters => store_parameters(session),
+        Start::EnsureControlMode(mode, timeout) => ensure_control_mode(session, mode, timeout),
+    }
+}
+
+// The same for a session that goes by value, by the entries by value.
+#[tactic(auto, unfolding(crate::specs::Step::step))]
+pub fn step(session: Session, call: Call) -> AfterStep
     ensures { result ≡ Spec.step session call }
 {
-    let told = step_lent(&mut session, call);
-    After { session, told }
+    match call {
+        Call::Start(start) => {
+            let AfterCall { session, told } = started(session, start);
+            After {
+                session,
+                told: Returned::Run(told),
+            }
+        }
+        Call::Answer(answer) => {
+            let AfterCall { session, told } = answer_run(session, answer);
+            After {
+                session,
+                told: Returned::Run(told),
+            }
+        }
+        Call::Frame(frame, reading) => {
+            let AfterFrame { session, told } = take_frame(session, frame, reading);
+            After {
+                session,
+                told: Returned::Frame(told),
+            }
+        }
+        Call::Patch(status, t_mos, t_rotor) => {
+            let AfterPatch { session, told } = patch_latest(session, status, t_mos, t_rotor);
+            After {
+                session,
+                told: Returned::Patch(told),
+            }
+        }
+    }
 }
