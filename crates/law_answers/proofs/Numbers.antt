@@ -255,7 +255,7 @@ by_answer s a = stepped (answer_step s.head (entry s) s.run a) ∙ go s.run a
     go (Some m) (Send sent) = wanted m (Send sent) _
     go (Some m) Slept = wanted m Slept _
 
-by_frame_taken : (s : Session) (f : CanFrame) (t : Instant) → refused (take_frame s f t).told ≡ Table.frame s t
+by_frame_taken : (s : Session) (f : CanFrame) (t : Instant) → refused (take_frame s f t).told ≡ Table.frame_taken s t
 unfolding take_frame
 by_frame_taken s f t = tested (reading_accepted s.head.last t) (Ok tt) Refusal.Reading
 

@@ -147,8 +147,8 @@ abbrev pub answer : Session → Answer → ℕ
 answer s given = first (answer_rows s.run s.head.last given)
 
 -- frame taken 3
-abbrev pub frame : Session → Instant → ℕ
-frame s reading = first (reading_row s.head.last reading ∷ [])
+abbrev pub frame_taken : Session → Instant → ℕ
+frame_taken s reading = first (reading_row s.head.last reading ∷ [])
 
 -- decoding, a query, a model's limits, a cached entry
 abbrev pub decoding : Maxima → ℕ
@@ -167,5 +167,5 @@ cached rid = first (register_row rid ∷ [])
 abbrev pub turned_back : Session → Call → ℕ
 turned_back s (Call.Start start) = run s start
 turned_back s (Call.Answer given) = answer s given
-turned_back s (Call.Frame taken reading) = frame s reading
+turned_back s (Call.Frame frame reading) = frame_taken s reading
 turned_back s (Call.Patch status mos rotor) = 0

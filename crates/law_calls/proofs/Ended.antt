@@ -27,7 +27,7 @@ use Rattle.session_call.specs.declared.Returned.TheVariants as Returned
 use Rattle.law_calls.specs.Calls.{Answered, Accepted}
 use Rattle.law_calls.specs.Ran.{gives, gives_result, next, Ran}
 use Rattle.law_calls.specs.Turns.{Gave, Turn, result_in, result_of, gave_after}
-use Rattle.law_calls.proofs.Lists.{none≢some}
+use Rattle.std.proofs.lemmas.Option.{none-some}
 use Rattle.law_calls.proofs.Ran.{onward_cases, start_waits}
 
 wants_accepted : (h : Head) (w : Want Message) → Accepted (Ok (Told.Want (caller_want h w)))
@@ -54,7 +54,7 @@ module _ (h : Head) (end : Session) where
   still_open (t ∷ ts) m l (k, on) e =
       onward_cases h (λ q. Ran h end q (with_reading k.head t.answer).last ts) t ts (next h m l t k) on
       (λ q x gave ran. still_open ts q (with_reading k.head t.answer).last ran (sym (want_on h t ts q gave) ∙ e))
-      (λ r over gave stop. absurd (none≢some (sym e ∙ end_of h t ts r gave)))
+      (λ r over gave stop. absurd (none-some _ (sym e ∙ end_of h t ts r gave)))
 
   -- an answer that is accepted
   pub answered : StandsOpen → (a : Answer) × (w : Answered) × ((step end (Call.Answer a)).told ≡ Returned.Run w) × Accepted w
@@ -76,7 +76,7 @@ module _ (h : Head) (end : Session) where
   -- one that has ended wants nothing more
   pub closed_after : (ts : List Turn) (m : Machine) (l : Instant) (g : Gave) (r : RunResult) → Ran h end m l ts → result_of ts ≡ Some r → (gave_after g ts).wants ≡ None
   unfolding Ran result_of gave_after
-  closed_after [] m l g r ran e = absurd (none≢some e)
+  closed_after [] m l g r ran e = absurd (none-some _ e)
   closed_after (t ∷ ts) m l g r (k, on) e =
       onward_cases h (λ q. Ran h end q (with_reading k.head t.answer).last ts) t ts (next h m l t k) on
       (λ q x gave ran. closed_after ts q (with_reading k.head t.answer).last t.gave r ran (sym (want_on h t ts q gave) ∙ e))

@@ -1,10 +1,11 @@
 -- One list after another: sessions, events, what was taken, turns and counts. Assumes nothing.
 use Rattle.std.specs.Prelude.{None, Option, Some, Ok, Err}
 use Prim.Native.Nat.{◌+◌}
-use mathlib.Core.Path.{◌≡◌, refl, sym, ap, ◌∙◌, subst}
+use mathlib.Core.Path.{◌≡◌, refl, sym, ap, ◌∙◌}
 use mathlib.Core.Bool.{Bool}
 use mathlib.Core.List.{List, [], ◌∷◌, ◌++◌}
 use native.Mathlib.Omega.{arith}
+use Rattle.std.proofs.lemmas.Option.{none-some}
 use Rattle.run_want.specs.declared.Answer.{Answer}
 use Rattle.run_want.specs.declared.Want.{Want}
 use Rattle.run_want.specs.declared.message.Message.{Message}
@@ -42,13 +43,6 @@ counts_joined f (t ∷ ts) us = omega (arith, counts_joined f ts us)
 
 -- ---- turns, by whether they have a result
 
-pub none≢some : {A : Type 0} {x : A} → None ≡ Some x → ⊥
-none≢some {A} e = subst IsNone e tt
-  where
-    IsNone : Option A → Type 0
-    IsNone None = Unit {0}
-    IsNone (Some x) = ⊥
-
 -- what a call adds to the turns after it
 record Adds (f : List Turn → List Turn) : Type 0 where
   no_result : (ts rest : List Turn) → result_of (f ts) ≡ None → (f (ts ++ rest) ≡ f ts ++ rest) × (result_of ts ≡ None)
@@ -63,7 +57,7 @@ answer_adds a sees w (Ok (Told.Want want)) = record {
   no_result = λ ts rest e. (refl, e);
   a_result = λ ts whole r e same. ap (λ (us : List Turn). turn a sees w (Ok (Told.Want want)) ∷ us) (same e);
 }
-answer_adds a sees w (Ok (Told.Result x)) = record { no_result = λ ts rest e. absurd (none≢some (sym e)); a_result = λ ts whole r e same. refl }
+answer_adds a sees w (Ok (Told.Result x)) = record { no_result = λ ts rest e. absurd (none-some _ (sym e)); a_result = λ ts whole r e same. refl }
 answer_adds a sees w (Err refusal) = no_turn
 
 returned_adds : (a : Answer) (sees : Sees) (w : Option (Want Message)) (r : Returned) → Adds (turn_of a sees w r)
@@ -89,6 +83,6 @@ turns_joined (u ∷ us) vs sees e =
 
 pub turns_over : (us vs : List Event) (sees : Sees) (r : RunResult) → result_of (turns sees us) ≡ Some r → turns sees (us ++ vs) ≡ turns sees us
 unfolding turns result_of
-turns_over [] vs sees r e = absurd (none≢some e)
+turns_over [] vs sees r e = absurd (none-some _ e)
 turns_over (u ∷ us) vs sees r e =
     (call_adds sees u.call u.returned u.wants).a_result (turns (seen_with sees u) us) (turns (seen_with sees u) (us ++ vs)) r e (turns_over us vs (seen_with sees u) r)

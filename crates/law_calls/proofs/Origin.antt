@@ -17,7 +17,7 @@ use Rattle.session_call.specs.declared.Returned.{Returned}
 use Rattle.law_calls.specs.Calls.{Event}
 use Rattle.law_calls.specs.Laws.{NoneTaken, Taken}
 use Rattle.law_calls.specs.Places.{said, same_place, entry_of, frame_brings, brings, replaced, last_taken}
-use Rattle.law_calls.proofs.Lists.{none≢some}
+use Rattle.std.proofs.lemmas.Option.{none-some}
 
 equal_places : (p q : Place) → same_place p q ≡ true → q ≡ p
 equal_places (Reply rid) (Reply other) e = ap Reply (sym (eqb-true rid other e))
@@ -44,11 +44,11 @@ module _ (place : Place) (value : RegisterValue) (stamp : Instant) where
 
   by_frame : (f : CanFrame) (t : Instant) (r : Returned) → frame_brings place f t r ≡ Some entry → Brought (Call.Frame f t) r
   unfolding frame_brings
-  by_frame f t (Returned.Run told) e = absurd (none≢some e)
+  by_frame f t (Returned.Run told) e = absurd (none-some _ e)
   by_frame f t (Returned.Frame (Ok taken)) e = go (said f) refl e
     where
       go : (x : Option (Place × RegisterValue)) → said f ≡ x → entry_of place t x ≡ Some entry → Brought (Call.Frame f t) (Returned.Frame (Ok taken))
-      go None is e = absurd (none≢some e)
+      go None is e = absurd (none-some _ e)
       go (Some x) is e = at (same_place place x.0) refl e
         where
           at : (b : Bool) → same_place place x.0 ≡ b → ◌≡◌ {A = Option Entry} (cond b (Some (Held x.1 t)) None) (Some entry) → Brought (Call.Frame f t) (Returned.Frame (Ok taken))
@@ -58,16 +58,16 @@ module _ (place : Place) (value : RegisterValue) (stamp : Instant) where
             taken = refl;
             says = is ∙ λ i. Some (equal_places place x.0 same i, same_value x.1 t e i);
           }
-          at false same e = absurd (none≢some e)
-  by_frame f t (Returned.Frame (Err refusal)) e = absurd (none≢some e)
-  by_frame f t (Returned.Patch done) e = absurd (none≢some e)
+          at false same e = absurd (none-some _ e)
+  by_frame f t (Returned.Frame (Err refusal)) e = absurd (none-some _ e)
+  by_frame f t (Returned.Patch done) e = absurd (none-some _ e)
 
   by_call : (c : Call) (r : Returned) → brings place c r ≡ Some entry → Brought c r
   unfolding brings
-  by_call (Call.Start b) r e = absurd (none≢some e)
-  by_call (Call.Answer a) r e = absurd (none≢some e)
+  by_call (Call.Start b) r e = absurd (none-some _ e)
+  by_call (Call.Answer a) r e = absurd (none-some _ e)
   by_call (Call.Frame f t) r e = by_frame f t r e
-  by_call (Call.Patch status mos rotor) r e = absurd (none≢some e)
+  by_call (Call.Patch status mos rotor) r e = absurd (none-some _ e)
 
   -- nothing of the place was taken and it was there before, or it came in the list
   abbrev Came : Entry → List Event → Type 0

@@ -44,7 +44,7 @@ use Rattle.registers.specs.declared.RegisterValue.{RegisterValue}
 use Rattle.law_calls.specs.Calls.{events, session_after}
 use Rattle.law_calls.specs.Laws.{held, accepted_by, accepted_reading, Next, last_with, Rising, last_reading, stamp_of, record_stamp}
 use Rattle.law_calls.specs.Places.{frame_brings, entry_of, said, replaced, same_place}
-use Rattle.law_calls.proofs.Lists.{none≢some}
+use Rattle.std.proofs.lemmas.Option.{none-some}
 use Rattle.law_calls.proofs.Sessions.{Sound, step_sound, start_held, answer_held, frame_held}
 use Rattle.law_calls.proofs.Sessions as Sessions
 
@@ -152,12 +152,12 @@ module _ (h : Head) (s : Session) (sound : Sound h s) (stamped : Stamped s) wher
       same v is = cc
 
       go : (x : Option (Place × RegisterValue)) → entry_of place t x ≡ Some e → stamp_of e ≡ t.0
-      go None is = absurd (none≢some is)
+      go None is = absurd (none-some _ is)
       go (Some x) is = at (same_place place x.0) is
         where
           at : (b : Bool) → ◌≡◌ {A = Option Entry} (cond b (Some (Held x.1 t)) None) (Some e) → stamp_of e ≡ t.0
           at true is = ap stamp_of (sym (same x.1 is))
-          at false is = absurd (none≢some is)
+          at false is = absurd (none-some _ is)
 
   record_stamps : (x : Option MotorFeedbackState) (t : Instant) (cache : FeedbackCache) → record_stamp cache.latest ≤ s.head.last.0 → s.head.last.0 ≤ t.0
       → (record_stamp cache.latest ≤ record_stamp (record_with x t cache).latest) × (record_stamp (record_with x t cache).latest ≤ t.0)

@@ -101,8 +101,8 @@ module _ (h : Head) (s : Session) (sound : Sound h s) where
   patch_held status mos rotor = let kept = left s status mos rotor in caches_held (patch s status mos rotor).session kept.replies kept.acks
 
   -- what a frame says of a register, as the list reads it
-  with_reply : (t : Instant) (rid : ℕ) (b : Bool) (v : RegisterValue) (slot : Entry) → slot_with (cond b (Some v) None) t slot ≡ replaced slot (cond b (Some (Held v t)) None)
-  with_reply t rid b v slot = go b
+  with_brought : (t : Instant) (b : Bool) (v : RegisterValue) (slot : Entry) → slot_with (cond b (Some v) None) t slot ≡ replaced slot (cond b (Some (Held v t)) None)
+  with_brought t b v slot = go b
     where
       go : (b : Bool) → slot_with (cond b (Some v) None) t slot ≡ replaced slot (cond b (Some (Held v t)) None)
       go false = refl
@@ -113,7 +113,7 @@ module _ (h : Head) (s : Session) (sound : Sound h s) where
   says_reply t rid slot f = go (class_of f.«data»)
     where
       go : (k : FrameClass) → slot_with (of_register rid (reply_of (by_class k s.head.limits f.«data»))) t slot ≡ replaced slot (entry_of (Reply rid) t (said_by k f.«data»))
-      go Class.Reply = with_reply t rid _ _ slot
+      go Class.Reply = with_brought t _ _ slot
       go Class.Ack = refl
       go Class.Feedback = refl
 
@@ -123,7 +123,7 @@ module _ (h : Head) (s : Session) (sound : Sound h s) where
     where
       go : (k : FrameClass) → slot_with (of_register rid (ack_of (by_class k s.head.limits f.«data»))) t slot ≡ replaced slot (entry_of (Ack rid) t (said_by k f.«data»))
       go Class.Reply = refl
-      go Class.Ack = with_reply t rid _ _ slot
+      go Class.Ack = with_brought t _ _ slot
       go Class.Feedback = refl
 
   pub frame_held : (f : CanFrame) (t : Instant) (place : Place) → held (take_frame s f t).session place ≡ replaced (held s place) (frame_brings place f t (Returned.Frame (take_frame s f t).told))

@@ -34,7 +34,7 @@ use Rattle.law_calls.specs.Laws.{AsWanted, AtMost}
 use Rattle.law_calls.specs.Ran.{looked_at, gives, gives_result, Took, next, Ran}
 use Rattle.law_calls.specs.Turns.{Gave, Turn, gaves, once, count, a_want, send_to, is_sleep, a_send, a_sleep, wants_send, wants_sleep, any, result_in, result_of, reading_or, next_reading, AllMove}
 use Rattle.law_calls.proofs.Ended.{want_on, end_of}
-use Rattle.law_calls.proofs.Lists.{none≢some}
+use Rattle.std.proofs.lemmas.Option.{none-some}
 use Rattle.law_calls.proofs.Moving.{Behind, Pending, Goes_on, goes_on}
 use Rattle.law_calls.proofs.Ran.{onward_cases}
 
@@ -55,7 +55,7 @@ module _ (h : Head) (Of : Machine → Type 0) (stays : (latest : Option Feedback
       gs = [];
       as_many = refl;
       counts = λ f w same never. ap (λ (n : ℕ). n + 0) (same m of);
-      ended = λ e. absurd (none≢some (sym e));
+      ended = λ e. absurd (none-some _ (sym e));
       moves = λ k b pending move. tt;
     }
 
@@ -177,4 +177,4 @@ module _ (h : Head) where
         go move unfinished false few = leb-false answers (length ts) few
         go move unfinished true many =
             let over = within.ends_after trace.gs (all_move move) (subst (λ (n : ℕ). answers ≤ n) (sym trace.as_many) (leb-true answers (length ts) many)) in
-            absurd (none≢some (sym unfinished ∙ (trace.ended over).1))
+            absurd (none-some _ (sym unfinished ∙ (trace.ended over).1))

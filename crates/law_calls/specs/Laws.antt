@@ -60,7 +60,7 @@ pub record PatchLeaves (s after : Session) : Type 0 where
   pub acks : after.acks ≡ s.acks
   pub run : after.run ≡ s.run
 
--- a start and an answer leave ids, limits, record and caches, and a start the last reading; a frame ids, limits and the run
+-- a start and an answer leave ids, limits, record and caches, and a start the last reading; a frame ids, limits and the run; a patch all but the latest record's status and temperatures
 unfoldable pub Leaves : Call → Session → Session → Type 0
 Leaves (Call.Start start) s after = Unchanged s after × (after.head.last ≡ s.head.last)
 Leaves (Call.Answer answer) s after = Unchanged s after

@@ -52,7 +52,7 @@ abbrev pub replaced : Entry → Option Entry → Entry
 replaced e None = e
 replaced e (Some brought) = brought
 
--- after more calls
+-- what is the last at a place after these calls, where `e` was the last before them
 unfoldable pub last_taken : Place → Entry → List Event → Entry
 last_taken place e [] = e
 last_taken place e (v ∷ vs) = last_taken place (replaced e (brings place v.call v.returned)) vs

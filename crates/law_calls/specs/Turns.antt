@@ -5,7 +5,6 @@ use Rattle.time.specs.declared.Instant.{Instant}
 use Rattle.run_want.specs.declared.Answer.{Answer}
 use Rattle.run_want.specs.declared.Want.{Want}
 use Rattle.run_want.specs.declared.Want.TheVariants.{Clock, Send, Sleep}
-use Rattle.run_want.specs.declared.Want.TheVariants as Wanted
 use Rattle.run_want.specs.declared.message.Message.{Message}
 use Rattle.run_machine.specs.Machine.{RunResult}
 use Rattle.session_step.specs.Parts.{Wanted}
@@ -97,14 +96,14 @@ a_want test (Err refusal) = false
 
 -- a send, and one to an id with data bytes that pass; a sleep
 unfoldable pub send_to : (ℕ → ℕ → Bool) → Wanted → Bool
-send_to test Wanted.Clock = false
-send_to test (Wanted.Send command) = test command.arbitration_id command.«data»
-send_to test (Wanted.Sleep length) = false
+send_to test Clock = false
+send_to test (Send command) = test command.arbitration_id command.«data»
+send_to test (Sleep length) = false
 
 unfoldable pub is_sleep : Wanted → Bool
-is_sleep Wanted.Clock = false
-is_sleep (Wanted.Send command) = false
-is_sleep (Wanted.Sleep length) = true
+is_sleep Clock = false
+is_sleep (Send command) = false
+is_sleep (Sleep length) = true
 
 abbrev pub a_send : Answered → Bool
 a_send = a_want (send_to (λ id bytes. true))
@@ -147,7 +146,7 @@ next_reading (t ∷ ts) = reading_or t.answer (next_reading ts)
 
 -- a sleep moves the clock on, unless the next reading is less than its length above the last one before it
 abbrev pub Moves : Option Instant → Answered → Option Instant → Type 0
-Moves last w next = (r t : Instant) (d : Duration) → last ≡ Some r → w ≡ Ok (Told.Want (Wanted.Sleep d)) → next ≡ Some t → r.0 + d.0 ≤ t.0
+Moves last w next = (r t : Instant) (d : Duration) → last ≡ Some r → w ≡ Ok (Told.Want (Sleep d)) → next ≡ Some t → r.0 + d.0 ≤ t.0
 
 -- all do, from the want `w` on; `last` is the last reading so far
 unfoldable pub AllMove : Option Instant → Answered → List Turn → Type 0

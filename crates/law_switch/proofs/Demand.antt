@@ -33,7 +33,7 @@ use Rattle.law_calls.specs.Ran.{gives}
 use Rattle.law_calls.specs.Ran as Run
 use Rattle.law_calls.specs.Turns.{Gave, Turn, turns_after, result_in, result_of, gaves, once, count, a_want, send_to, wants_send}
 use Rattle.law_calls.proofs.Laws.{laws}
-use Rattle.law_calls.proofs.Lists.{none≢some}
+use Rattle.std.proofs.lemmas.Option.{none-some}
 use Rattle.law_calls.proofs.Sessions.{list_sound, refused_leaves}
 use Rattle.law_calls.proofs.Started.{fresh_motor, fresh_sound}
 use Rattle.law_calls.proofs.Traced.{Traced, traced}
@@ -111,7 +111,7 @@ module _ (h : Head) (mode : ControlMode) (timeout : Duration) (ts : List Turn) (
         closes = alone.closes;
         success = λ r e. (
           λ done. done_found h mode timeout end ts l how (subst (λ (x : RunResult). result_of ts ≡ Some x) done e),
-          λ f. ap (some_of r) (sym e ∙ found_done h mode timeout end ts Starting l None how (λ o is. absurd (none≢some is)) (as_from_none motor (mode_number mode) first ts f)),
+          λ f. ap (some_of r) (sym e ∙ found_done h mode timeout end ts Starting l None how (λ o is. absurd (none-some _ is)) (as_from_none motor (mode_number mode) first ts f)),
         );
       }
 

@@ -46,7 +46,7 @@ use Rattle.law_switch.proofs.ModeReads.{mode_ask, in_read, ask_of, Saw, Entered,
 use Rattle.law_switch.proofs.Ran.{machine, gave_want, gave_result, seen, sees_mode, Took, Onward, onward_cases, Ran}
 use Rattle.law_switch.proofs.Told.{reads_alike}
 use Rattle.law_calls.proofs.Ended.{want_on, end_of}
-use Rattle.law_calls.proofs.Lists.{none≢some}
+use Rattle.std.proofs.lemmas.Option.{none-some}
 
 -- an answer of the kind that is wanted
 pub clock_read : (r : Option Instant) (a : Answer) → fits Clock a ≡ true → reading_or a r ≡ Some (reading_of a)
@@ -323,18 +323,18 @@ module _ (h : Head) (mode : ControlMode) (timeout : Duration) where
 
   sought : (z : Session) (ts : List Turn) (p : Switch) (l : Instant) (r : Option Instant) → Ran h mode timeout z p l ts → Opened r p → result_of ts ≡ Some (Ok Outcome.Done) → Sought r p ts
   unfolding Ran result_of
-  sought z [] p l r ran opened done = absurd (none≢some done)
+  sought z [] p l r ran opened done = absurd (none-some _ done)
   sought z (t ∷ ts) p l r (k, on) opened done =
       let l' = (with_reading k.head t.answer).last in
       onward_sought p l r opened t ts k (λ q. Ran h mode timeout z q l' ts) (λ q ran o d. sought z ts q l' (reading_or t.answer r) ran o d) (switch_step mode timeout (seen p t) p t.answer) refl on done
 
   -- from the start on
   pub done_found : (z : Session) (ts : List Turn) (l : Instant) → Ran h mode timeout z Starting l ts → result_of ts ≡ Some (Ok Outcome.Done) → Found motor number (want_of Starting) ts
-  done_found z ts l ran done = go (sought z ts Starting l None ran (λ o e. absurd (none≢some e)) done)
+  done_found z ts l ran done = go (sought z ts Starting l None ran (λ o e. absurd (none-some _ e)) done)
     where
       go : Sought None Starting ts → Found motor number (want_of Starting) ts
       go (inl f) = from_none motor number (want_of Starting) ts f
-      go (inr (w, e, x)) = absurd (none≢some e)
+      go (inr (w, e, x)) = absurd (none-some _ e)
 
   -- ---- found, so done
 
