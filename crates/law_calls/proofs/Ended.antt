@@ -52,7 +52,7 @@ module _ (h : Head) (end : Session) where
   unfolding Ran
   still_open [] m l ran e = (m, ran.0, ran.1)
   still_open (t ∷ ts) m l (k, on) e =
-      onward_cases h (λ q. Ran h end q (with_reading k.head t.answer).last ts) t ts (next h m l t k) on
+      onward_cases h (λ q. Ran h end q (with_reading k.head t.answer).last ts) t ts (next m t) on
       (λ q x gave ran. still_open ts q (with_reading k.head t.answer).last ran (sym (want_on h t ts q gave) ∙ e))
       (λ r over gave stop. absurd (none-some _ (sym e ∙ end_of h t ts r gave)))
 
@@ -78,6 +78,6 @@ module _ (h : Head) (end : Session) where
   unfolding Ran result_of gave_after
   closed_after [] m l g r ran e = absurd (none-some _ e)
   closed_after (t ∷ ts) m l g r (k, on) e =
-      onward_cases h (λ q. Ran h end q (with_reading k.head t.answer).last ts) t ts (next h m l t k) on
+      onward_cases h (λ q. Ran h end q (with_reading k.head t.answer).last ts) t ts (next m t) on
       (λ q x gave ran. closed_after ts q (with_reading k.head t.answer).last t.gave r ran (sym (want_on h t ts q gave) ∙ e))
       (λ s over gave stop. ap (λ (ts : List Turn). (gave_after t.gave ts).wants) stop ∙ ap (λ (g : Gave). g.wants) gave)

@@ -6,6 +6,7 @@ use mathlib.Core.Bool.{Bool}
 use mathlib.Core.List.{List, [], ◌∷◌, ◌++◌}
 use native.Mathlib.Omega.{arith}
 use Rattle.std.proofs.lemmas.Option.{none-some}
+use Rattle.state_feedback.specs.declared.FeedbackSnapshot.{FeedbackSnapshot}
 use Rattle.run_want.specs.declared.Answer.{Answer}
 use Rattle.run_want.specs.declared.Want.{Want}
 use Rattle.run_want.specs.declared.message.Message.{Message}
@@ -51,38 +52,38 @@ record Adds (f : List Turn → List Turn) : Type 0 where
 no_turn : Adds (λ ts. ts)
 no_turn = record { no_result = λ ts rest e. (refl, e); a_result = λ ts whole r e same. same e }
 
-answer_adds : (a : Answer) (sees : Sees) (w : Option (Want Message)) (t : Answered) → Adds (turn_in a sees w t)
+answer_adds : (a : Answer) (sees : Sees) (latest : Option FeedbackSnapshot) (w : Option (Want Message)) (t : Answered) → Adds (turn_in a sees latest w t)
 unfolding turn_in result_of result_in
-answer_adds a sees w (Ok (Told.Want want)) = record {
+answer_adds a sees latest w (Ok (Told.Want want)) = record {
   no_result = λ ts rest e. (refl, e);
-  a_result = λ ts whole r e same. ap (λ (us : List Turn). turn a sees w (Ok (Told.Want want)) ∷ us) (same e);
+  a_result = λ ts whole r e same. ap (λ (us : List Turn). turn a sees latest w (Ok (Told.Want want)) ∷ us) (same e);
 }
-answer_adds a sees w (Ok (Told.Result x)) = record { no_result = λ ts rest e. absurd (none-some _ (sym e)); a_result = λ ts whole r e same. refl }
-answer_adds a sees w (Err refusal) = no_turn
+answer_adds a sees latest w (Ok (Told.Result x)) = record { no_result = λ ts rest e. absurd (none-some _ (sym e)); a_result = λ ts whole r e same. refl }
+answer_adds a sees latest w (Err refusal) = no_turn
 
-returned_adds : (a : Answer) (sees : Sees) (w : Option (Want Message)) (r : Returned) → Adds (turn_of a sees w r)
+returned_adds : (a : Answer) (sees : Sees) (latest : Option FeedbackSnapshot) (w : Option (Want Message)) (r : Returned) → Adds (turn_of a sees latest w r)
 unfolding turn_of
-returned_adds a sees w (Returned.Run t) = answer_adds a sees w t
-returned_adds a sees w (Returned.Frame outcome) = no_turn
-returned_adds a sees w (Returned.Patch done) = no_turn
+returned_adds a sees latest w (Returned.Run t) = answer_adds a sees latest w t
+returned_adds a sees latest w (Returned.Frame outcome) = no_turn
+returned_adds a sees latest w (Returned.Patch done) = no_turn
 
-call_adds : (sees : Sees) (c : Call) (r : Returned) (w : Option (Want Message)) → Adds (add_turn sees c r w)
+call_adds : (sees : Sees) (latest : Option FeedbackSnapshot) (c : Call) (r : Returned) (w : Option (Want Message)) → Adds (add_turn sees latest c r w)
 unfolding add_turn
-call_adds sees (Call.Start b) r w = no_turn
-call_adds sees (Call.Answer a) r w = returned_adds a sees w r
-call_adds sees (Call.Frame f reading) r w = no_turn
-call_adds sees (Call.Patch status mos rotor) r w = no_turn
+call_adds sees latest (Call.Start b) r w = no_turn
+call_adds sees latest (Call.Answer a) r w = returned_adds a sees latest w r
+call_adds sees latest (Call.Frame f reading) r w = no_turn
+call_adds sees latest (Call.Patch status mos rotor) r w = no_turn
 
 pub turns_joined : (us vs : List Event) (sees : Sees) → result_of (turns sees us) ≡ None → turns sees (us ++ vs) ≡ turns sees us ++ turns (seen_after sees us) vs
 unfolding turns last_taken
 turns_joined [] vs sees e = refl
 turns_joined (u ∷ us) vs sees e =
-    let adds = call_adds sees u.call u.returned u.wants in
+    let adds = call_adds sees u.latest u.call u.returned u.wants in
     let rest = adds.no_result (turns (seen_with sees u) us) (turns (seen_after (seen_with sees u) us) vs) e in
-    ap (add_turn sees u.call u.returned u.wants) (turns_joined us vs (seen_with sees u) rest.1) ∙ rest.0
+    ap (add_turn sees u.latest u.call u.returned u.wants) (turns_joined us vs (seen_with sees u) rest.1) ∙ rest.0
 
 pub turns_over : (us vs : List Event) (sees : Sees) (r : RunResult) → result_of (turns sees us) ≡ Some r → turns sees (us ++ vs) ≡ turns sees us
 unfolding turns result_of
 turns_over [] vs sees r e = absurd (none-some _ e)
 turns_over (u ∷ us) vs sees r e =
-    (call_adds sees u.call u.returned u.wants).a_result (turns (seen_with sees u) us) (turns (seen_with sees u) (us ++ vs)) r e (turns_over us vs (seen_with sees u) r)
+    (call_adds sees u.latest u.call u.returned u.wants).a_result (turns (seen_with sees u) us) (turns (seen_with sees u) (us ++ vs)) r e (turns_over us vs (seen_with sees u) r)

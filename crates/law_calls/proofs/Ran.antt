@@ -65,7 +65,7 @@ module _ (h : Head) where
   onward_cases R t ts (Err failure) (gave, stop) goes ends = ends (Err failure) refl gave stop
 
   -- a turn by its step
-  by_step : (end : Session) (m : Machine) (l : Instant) (t : Turn) (ts : List Turn) (k : Took h m l t) (x : Stepped Machine Outcome) → next h m l t k ≡ x → Onward h (λ q. Ran h end q (with_reading k.head t.answer).last ts) x t ts → Ran h end m l (t ∷ ts)
+  by_step : (end : Session) (m : Machine) (l : Instant) (t : Turn) (ts : List Turn) (k : Took h m l t) (x : Stepped Machine Outcome) → next m t ≡ x → Onward h (λ q. Ran h end q (with_reading k.head t.answer).last ts) x t ts → Ran h end m l (t ∷ ts)
   unfolding Ran
   by_step end m l t ts k x e on = (k, subst (λ (y : Stepped Machine Outcome). Onward h (λ q. Ran h end q (with_reading k.head t.answer).last ts) y t ts) (sym e) on)
 
@@ -95,7 +95,7 @@ module _ (h : Head) where
 
     -- of what an answer came to
     abbrev Came : Answer → AfterCall → Type 0
-    Came a r = Ran h (session_after r.session cs) m s.head.last (turn_in a (held s) (open_want r.session.run) r.told (turns (held s) (events r.session cs)))
+    Came a r = Ran h (session_after r.session cs) m s.head.last (turn_in a (held s) s.head.feedback.latest (open_want r.session.run) r.told (turns (held s) (events r.session cs)))
 
     -- an answer that is taken
     module _ (a : Answer) (accepted : answer_accepted s.head.last a ≡ true) (fit : fits (machine_want m) a ≡ true) where
@@ -103,7 +103,7 @@ module _ (h : Head) where
       came_to x = with_step s (Ok (stepped (with_reading s.head a) x))
 
       abbrev turn_with : Gave → Turn
-      turn_with g = record { answer = a; sees = held s; gave = g }
+      turn_with g = record { answer = a; sees = held s; latest = s.head.feedback.latest; gave = g }
 
       abbrev took : (g : Gave) → Took h m s.head.last (turn_with g)
       took g = record { head = s.head; since = le_refl _; fit = fit; accepted = accepted }

@@ -61,13 +61,13 @@ module _ (h : Head) (Of : Machine → Type 0) (stays : (latest : Option Feedback
 
     module _ (t : Turn) (ts : List Turn) (k : Took h m l t) where
       abbrev given : Given
-      given = record { answer = t.answer; latest = k.head.feedback.latest; entry = looked_at t.sees (machine_place m) }
+      given = record { answer = t.answer; latest = t.latest; entry = looked_at t.sees (machine_place m) }
 
       fine_on : (k' : Known) → Behind k'.last l → Pending k' (next_reading (t ∷ ts)) → AllMove k'.last (gives h m).told (t ∷ ts) → Goes_on (machine_want m) t.answer k' k.head (next_reading ts)
       unfolding next_reading AllMove
       fine_on k' b pending move = goes_on h k' l k.head k.since b (next_reading ts) (machine_want m) t.answer k.fit k.accepted pending move.0
 
-      goes : (q : Machine) → next h m l t k ≡ Ok (Continue q) → t.gave ≡ gives h q → Traced q (with_reading k.head t.answer).last ts → Traced m l (t ∷ ts)
+      goes : (q : Machine) → next m t ≡ Ok (Continue q) → t.gave ≡ gives h q → Traced q (with_reading k.head t.answer).last ts → Traced m l (t ∷ ts)
       unfolding gaves count Trace.total wants_from after AllFine result_of AllMove
       goes q e gave rest = record {
         gs = given ∷ rest.gs;
@@ -88,7 +88,7 @@ module _ (h : Head) (Of : Machine → Type 0) (stays : (latest : Option Feedback
             );
       }
 
-      ends : (r : RunResult) → phase_of (next h m l t k) ≡ None → t.gave ≡ gives_result h r → ts ≡ [] → Traced m l (t ∷ ts)
+      ends : (r : RunResult) → phase_of (next m t) ≡ None → t.gave ≡ gives_result h r → ts ≡ [] → Traced m l (t ∷ ts)
       unfolding gaves count Trace.total wants_from after AllFine result_of result_in
       ends r e gave stop = record {
         gs = given ∷ [];
@@ -104,7 +104,7 @@ module _ (h : Head) (Of : Machine → Type 0) (stays : (latest : Option Feedback
   unfolding Ran
   traced end [] m l of ran = none_yet end m l of
   traced end (t ∷ ts) m l of (k, on) =
-      onward_cases h (λ q. Ran h end q (with_reading k.head t.answer).last ts) t ts (next h m l t k) on
+      onward_cases h (λ q. Ran h end q (with_reading k.head t.answer).last ts) t ts (next m t) on
       (λ q x gave ran. goes end m l of t ts k q x gave (traced end ts q (with_reading k.head t.answer).last (stays _ _ m t.answer q of x) ran))
       (λ r x gave stop. ends end m l of t ts k r x gave stop)
 

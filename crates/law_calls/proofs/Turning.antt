@@ -20,37 +20,37 @@ module _ (t : Turn) (later : List Turn) where
 
   module _ (s : Session) (sees : Sees) (cs : List Call) where
     -- a call further on
-    further : (c : Call) (us earlier : List Turn) → add_turn sees c (step s c).told (open_want (step s c).session.run) us ≡ earlier → IsCall (step s c).session (seen_with sees (event s c)) cs us t → IsCall s sees (c ∷ cs) earlier t
+    further : (c : Call) (us earlier : List Turn) → add_turn sees s.head.feedback.latest c (step s c).told (open_want (step s c).session.run) us ≡ earlier → IsCall (step s c).session (seen_with sees (event s c)) cs us t → IsCall s sees (c ∷ cs) earlier t
     unfolding session_after events last_taken turns
     further c us earlier adds is = record {
       before = c ∷ is.before;
       later = is.later;
       whole = ap (λ (bs : List Call). c ∷ bs) is.whole;
-      turns_before = ap (add_turn sees c (step s c).told (open_want (step s c).session.run)) is.turns_before ∙ adds;
+      turns_before = ap (add_turn sees s.head.feedback.latest c (step s c).told (open_want (step s c).session.run)) is.turns_before ∙ adds;
       gave = is.gave;
       saw = is.saw;
     }
 
     -- this one
-    here : (a : Answer) (told : Answered) → (step s (Call.Answer a)).told ≡ Returned.Run told → turn a sees (open_want (step s (Call.Answer a)).session.run) told ≡ t → IsCall s sees (Call.Answer a ∷ cs) [] t
+    here : (a : Answer) (told : Answered) → (step s (Call.Answer a)).told ≡ Returned.Run told → turn a sees s.head.feedback.latest (open_want (step s (Call.Answer a)).session.run) told ≡ t → IsCall s sees (Call.Answer a ∷ cs) [] t
     unfolding session_after events last_taken turns
     here a told gives is = record {
       before = [];
       later = cs;
       whole = ap (λ (x : Turn). Call.Answer x.answer ∷ cs) is;
       turns_before = refl;
-      gave = ap (λ (x : Turn). event s (Call.Answer x.answer)) (sym is) ∙ ap (λ (r : Returned). record { call = Call.Answer a; returned = r; wants = open_want (step s (Call.Answer a)).session.run }) gives ∙ ap (λ (x : Turn). record { call = Call.Answer x.answer; returned = Returned.Run x.gave.told; wants = x.gave.wants }) is;
+      gave = ap (λ (x : Turn). event s (Call.Answer x.answer)) (sym is) ∙ ap (λ (r : Returned). record { call = Call.Answer a; latest = s.head.feedback.latest; returned = r; wants = open_want (step s (Call.Answer a)).session.run }) gives ∙ ap (λ (x : Turn). record { call = Call.Answer x.answer; latest = x.latest; returned = Returned.Run x.gave.told; wants = x.gave.wants }) is;
       saw = λ place. ap (λ (x : Turn). x.sees place) (sym is);
     }
 
     -- what an answer adds to the turns after it
-    adds : (a : Answer) (told : Answered) (us : List Turn) → (step s (Call.Answer a)).told ≡ Returned.Run told → add_turn sees (Call.Answer a) (step s (Call.Answer a)).told (open_want (step s (Call.Answer a)).session.run) us ≡ turn_in a sees (open_want (step s (Call.Answer a)).session.run) told us
+    adds : (a : Answer) (told : Answered) (us : List Turn) → (step s (Call.Answer a)).told ≡ Returned.Run told → add_turn sees s.head.feedback.latest (Call.Answer a) (step s (Call.Answer a)).told (open_want (step s (Call.Answer a)).session.run) us ≡ turn_in a sees s.head.feedback.latest (open_want (step s (Call.Answer a)).session.run) told us
     unfolding add_turn turn_of
-    adds a told us gives = ap (λ (r : Returned). turn_of a sees (open_want (step s (Call.Answer a)).session.run) r us) gives
+    adds a told us gives = ap (λ (r : Returned). turn_of a sees s.head.feedback.latest (open_want (step s (Call.Answer a)).session.run) r us) gives
 
     module _ (rest : (c : Call) → AmongThem (step s c).session (seen_with sees (event s c)) cs) where
       answered : (a : Answer) (told : Answered) → (step s (Call.Answer a)).told ≡ Returned.Run told → (earlier : List Turn)
-          → turn_in a sees (open_want (step s (Call.Answer a)).session.run) told (turns (seen_with sees (event s (Call.Answer a))) (events (step s (Call.Answer a)).session cs)) ≡ earlier ++ (t ∷ later)
+          → turn_in a sees s.head.feedback.latest (open_want (step s (Call.Answer a)).session.run) told (turns (seen_with sees (event s (Call.Answer a))) (events (step s (Call.Answer a)).session cs)) ≡ earlier ++ (t ∷ later)
           → IsCall s sees (Call.Answer a ∷ cs) earlier t
       unfolding turn_in add_turn turn_of
       answered a (Ok (Told.Want want)) gives [] is = here a (Ok (Told.Want want)) gives (head-eq_of_cons-eq is)

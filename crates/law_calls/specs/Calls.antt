@@ -3,6 +3,7 @@ use Rattle.std.specs.Prelude.{ℕ, ◌≡◌, List, [], ◌∷◌, None, Option,
 use Rattle.motor_core.specs.declared.error.Refusal.{Refusal}
 use Rattle.motor_core.specs.declared.model.Maxima.{Maxima}
 use Rattle.model_list.specs.declared.MotorModelSpec.{MotorModelSpec}
+use Rattle.state_feedback.specs.declared.FeedbackSnapshot.{FeedbackSnapshot}
 use Rattle.run_want.specs.declared.Want.{Want}
 use Rattle.run_want.specs.declared.message.Message.{Message}
 use Rattle.run_machine.specs.Machine.{machine_want}
@@ -24,14 +25,15 @@ abbrev pub open_want : Option Machine → Option (Want Message)
 open_want None = None
 open_want (Some machine) = Some (machine_want machine)
 
--- a call, what it returned, and what the run's definition, stepped over the same list, wants then
+-- a call, the latest record before it, what it returned, and what the run's definition, stepped over the same list, wants then
 pub record Event : Type 0 where
   pub call : Call
+  pub latest : Option FeedbackSnapshot
   pub returned : Returned
   pub wants : Option (Want Message)
 
 abbrev pub event : Session → Call → Event
-event s c = record { call = c; returned = (step s c).told; wants = open_want (step s c).session.run }
+event s c = record { call = c; latest = s.head.feedback.latest; returned = (step s c).told; wants = open_want (step s c).session.run }
 
 unfoldable pub events : Session → List Call → List Event
 events s [] = []

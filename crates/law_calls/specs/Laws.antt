@@ -95,7 +95,7 @@ pub record IsCall (s : Session) (sees : Sees) (cs : List Call) (earlier : List T
   pub later : List Call
   pub whole : cs ≡ before ++ (Call.Answer t.answer ∷ later)
   pub turns_before : turns sees (events s before) ≡ earlier
-  pub gave : event (session_after s before) (Call.Answer t.answer) ≡ record { call = Call.Answer t.answer; returned = Returned.Run t.gave.told; wants = t.gave.wants }
+  pub gave : event (session_after s before) (Call.Answer t.answer) ≡ record { call = Call.Answer t.answer; latest = t.latest; returned = Returned.Run t.gave.told; wants = t.gave.wants }
   pub saw : (place : Place) → t.sees place ≡ last_taken place (sees place) (events s before)
 
 -- ---- readings

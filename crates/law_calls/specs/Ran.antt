@@ -23,6 +23,10 @@ abbrev pub looked_at : Sees → Option Place → Entry
 looked_at sees None = Empty
 looked_at sees (Some place) = sees place
 
+-- a turn as a step of the machine, by the record that is the latest and by what the machine looks at
+abbrev pub next : Machine → Turn → Stepped Machine Outcome
+next m t = machine_step t.latest (looked_at t.sees (machine_place m)) m t.answer
+
 -- a run of the motor and limits `h`
 module _ (h : Head) where
   -- what a phase gives, and a result
@@ -32,16 +36,12 @@ module _ (h : Head) where
   abbrev pub gives_result : RunResult → Gave
   gives_result r = record { told = Ok (Told.Result r); wants = None }
 
-  -- an answer that the machine wants, accepted by a session whose last reading is no earlier than `l`; `turn_calls` says which session, and so which record is the latest
+  -- an answer that the machine wants, accepted by a session whose last reading is no earlier than `l`; `turn_calls` says which
   pub record Took (m : Machine) (l : Instant) (t : Turn) : Type 0 where
     pub head : Head
     pub since : l.0 ≤ head.last.0
     pub fit : fits (machine_want m) t.answer ≡ true
     pub accepted : answer_accepted head.last t.answer ≡ true
-
-  -- its step, by the record that is there and by what the machine looks at
-  abbrev pub next : (m : Machine) (l : Instant) (t : Turn) → Took m l t → Stepped Machine Outcome
-  next m l t k = machine_step k.head.feedback.latest (looked_at t.sees (machine_place m)) m t.answer
 
   -- and the run goes on, or ends with this turn
   abbrev pub Onward : (Machine → Type 0) → Stepped Machine Outcome → Turn → List Turn → Type 0
@@ -52,4 +52,4 @@ module _ (h : Head) where
   -- from the machine `m` on, with no reading earlier than `l`; `end` is the session at the end of the list
   unfoldable pub Ran : Session → Machine → Instant → List Turn → Type 0
   Ran end m l [] = (end.run ≡ Some m) × (end.head.last.0 ≤ 2 ^ 62)
-  Ran end m l (t ∷ ts) = (k : Took m l t) × Onward (λ q. Ran end q (with_reading k.head t.answer).last ts) (next m l t k) t ts
+  Ran end m l (t ∷ ts) = (k : Took m l t) × Onward (λ q. Ran end q (with_reading k.head t.answer).last ts) (next m t) t ts

@@ -2,6 +2,7 @@
 use Rattle.std.specs.Prelude.{ℕ, ◌+◌, ◌≤◌, ◌≡◌, Bool, true, false, cond, List, [], ◌∷◌, None, Option, Some, Ok, Err}
 use Rattle.time.specs.declared.Duration.{Duration}
 use Rattle.time.specs.declared.Instant.{Instant}
+use Rattle.state_feedback.specs.declared.FeedbackSnapshot.{FeedbackSnapshot}
 use Rattle.run_want.specs.declared.Answer.{Answer}
 use Rattle.run_want.specs.declared.Want.{Want}
 use Rattle.run_want.specs.declared.Want.TheVariants.{Clock, Send, Sleep}
@@ -19,37 +20,38 @@ pub record Gave : Type 0 where
   pub told : Answered
   pub wants : Option (Want Message)
 
--- an accepted answer, with what was the last reply or ack of each register before its call
+-- an accepted answer, with what was the last reply or ack of each register, and the latest record, before its call
 pub record Turn : Type 0 where
   pub answer : Answer
   pub sees : Sees
+  pub latest : Option FeedbackSnapshot
   pub gave : Gave
 
-abbrev pub turn : Answer → Sees → Option (Want Message) → Answered → Turn
-turn a sees w t = record { answer = a; sees = sees; gave = record { told = t; wants = w } }
+abbrev pub turn : Answer → Sees → Option FeedbackSnapshot → Option (Want Message) → Answered → Turn
+turn a sees latest w t = record { answer = a; sees = sees; latest = latest; gave = record { told = t; wants = w } }
 
 -- a refused answer is no turn, and the result is the last
-unfoldable pub turn_in : Answer → Sees → Option (Want Message) → Answered → List Turn → List Turn
-turn_in a sees w (Ok (Told.Want want)) ts = turn a sees w (Ok (Told.Want want)) ∷ ts
-turn_in a sees w (Ok (Told.Result r)) ts = turn a sees w (Ok (Told.Result r)) ∷ []
-turn_in a sees w (Err refusal) ts = ts
+unfoldable pub turn_in : Answer → Sees → Option FeedbackSnapshot → Option (Want Message) → Answered → List Turn → List Turn
+turn_in a sees latest w (Ok (Told.Want want)) ts = turn a sees latest w (Ok (Told.Want want)) ∷ ts
+turn_in a sees latest w (Ok (Told.Result r)) ts = turn a sees latest w (Ok (Told.Result r)) ∷ []
+turn_in a sees latest w (Err refusal) ts = ts
 
-unfoldable pub turn_of : Answer → Sees → Option (Want Message) → Returned → List Turn → List Turn
-turn_of a sees w (Returned.Run t) ts = turn_in a sees w t ts
-turn_of a sees w (Returned.Frame outcome) ts = ts
-turn_of a sees w (Returned.Patch done) ts = ts
+unfoldable pub turn_of : Answer → Sees → Option FeedbackSnapshot → Option (Want Message) → Returned → List Turn → List Turn
+turn_of a sees latest w (Returned.Run t) ts = turn_in a sees latest w t ts
+turn_of a sees latest w (Returned.Frame outcome) ts = ts
+turn_of a sees latest w (Returned.Patch done) ts = ts
 
 -- while a run is open no other can start, so every accepted answer is its own
-unfoldable pub add_turn : Sees → Call → Returned → Option (Want Message) → List Turn → List Turn
-add_turn sees (Call.Start start) returned w ts = ts
-add_turn sees (Call.Answer a) returned w ts = turn_of a sees w returned ts
-add_turn sees (Call.Frame f reading) returned w ts = ts
-add_turn sees (Call.Patch status mos rotor) returned w ts = ts
+unfoldable pub add_turn : Sees → Option FeedbackSnapshot → Call → Returned → Option (Want Message) → List Turn → List Turn
+add_turn sees latest (Call.Start start) returned w ts = ts
+add_turn sees latest (Call.Answer a) returned w ts = turn_of a sees latest w returned ts
+add_turn sees latest (Call.Frame f reading) returned w ts = ts
+add_turn sees latest (Call.Patch status mos rotor) returned w ts = ts
 
 -- its turns among the calls after its start; `sees` is what was seen so far
 unfoldable pub turns : Sees → List Event → List Turn
 turns sees [] = []
-turns sees (v ∷ vs) = add_turn sees v.call v.returned v.wants (turns (seen_with sees v) vs)
+turns sees (v ∷ vs) = add_turn sees v.latest v.call v.returned v.wants (turns (seen_with sees v) vs)
 
 -- none where the start gave the result
 unfoldable pub turns_after : Answered → Sees → List Event → List Turn
