@@ -1,5 +1,5 @@
 -- The laws of lists hold. Assumes nothing.
-use Rattle.std.specs.Prelude.{None, Option, Some, Ok, Err}
+use Rattle.std.specs.Prelude.{None, Option, Some, option_map, Ok, Err}
 use Prim.Native.Nat.{ℕ}
 use mathlib.Core.Path.{◌≡◌, refl, sym, ap, ◌∙◌, subst}
 use mathlib.Core.List.{List, ◌∷◌, ◌++◌}
@@ -8,8 +8,8 @@ use Rattle.motor_core.specs.declared.error.Refusal.{Refusal}
 use Rattle.time.specs.declared.Instant.{Instant}
 use Rattle.state_cache.specs.declared.Entry.{Entry}
 use Rattle.state_cache.specs.declared.Place.{Place}
-use Rattle.state_feedback.proofs.Patching.{patch_held, patch_keeps}
-use Rattle.state_feedback.specs.Feedback.{patched}
+use Rattle.state_feedback.proofs.Patching.{patch_held}
+use Rattle.state_feedback.specs.Feedback.{patch_snapshot, patched}
 use Rattle.state_feedback.specs.declared.FeedbackCache.{FeedbackCache}
 use Rattle.state_feedback.specs.declared.FeedbackSnapshot.{FeedbackSnapshot}
 use Rattle.run_machine.specs.declared.Machine.{Machine}
@@ -31,7 +31,7 @@ use Rattle.law_calls.specs.Calls.{Answered, Accepted, open_want, Fresh, events, 
 use Rattle.registers.specs.declared.RegisterValue.{RegisterValue}
 use Rattle.state_cache.specs.declared.Entry.TheVariants.{Empty, Held}
 use Prim.Native.Nat.{◌≤◌}
-use Rattle.law_calls.specs.Laws.{held, stamp_of, record_stamp, Leaves, PatchLeaves, SameLatest, Taken, IsCall, OfRun, Laws}
+use Rattle.law_calls.specs.Laws.{held, stamp_of, record_stamp, Leaves, PatchLeaves, Taken, IsCall, OfRun, Laws}
 use Rattle.law_calls.specs.Places.{brings, Sees, nothing, seen_after, last_taken}
 use Rattle.law_calls.specs.Turns.{Turn, turns, turns_after, result_in}
 use Rattle.law_calls.proofs.Ended.{still_open, answered, refuses, closed_after}
@@ -46,31 +46,32 @@ use Rattle.law_calls.proofs.Turning.{turn_calls}
 
 -- ---- what a call leaves alone
 
-patch_leaves : (s : Session) (status mos rotor : ℕ) → PatchLeaves s (patch s status mos rotor).session
-patch_leaves s status mos rotor =
-    let kept = left s status mos rotor in
-    let of_record = go s.head.feedback.latest refl in
-    record {
-      motor = record { motor_id = kept.motor_id; feedback_id = kept.feedback_id; limits = kept.limits };
-      latest = of_record.0;
-      sequence = of_record.1;
-      last = kept.last;
-      replies = kept.replies;
-      acks = kept.acks;
-      run = kept.run;
-    }
-  where
-    same_record : (r : FeedbackSnapshot) → SameLatest (Some r) (patched s.head.feedback status mos rotor r).latest
-    same_record r = let kept = patch_keeps r status mos rotor in
-        record { number = kept.number; stamp = kept.stamp; motor = kept.motor; arbitration_id = kept.arbitration_id; position = kept.position; velocity = kept.velocity; torque = kept.torque }
+module _ (s : Session) (status mos rotor : ℕ) where
+  abbrev patched_session : Session
+  patched_session = (patch s status mos rotor).session
 
-    go : (l : Option FeedbackSnapshot) → s.head.feedback.latest ≡ l → SameLatest s.head.feedback.latest (patch s status mos rotor).session.head.feedback.latest × ((patch s status mos rotor).session.head.feedback.sequence ≡ s.head.feedback.sequence)
-    go None e =
-        let same = nothing_patched s status mos rotor e in
-        (subst (λ (x : Session). SameLatest s.head.feedback.latest x.head.feedback.latest) (sym same) (subst (λ (l : Option FeedbackSnapshot). SameLatest l l) (sym e) tt), ap (λ (x : Session). x.head.feedback.sequence) same)
-    go (Some r) e =
-        let is = record_after_patch s status mos rotor (patched s.head.feedback status mos rotor r) (patch_held s.head.feedback status mos rotor r e) in
-        (subst (λ (l : Option FeedbackSnapshot). SameLatest l (patch s status mos rotor).session.head.feedback.latest) (sym e) (subst (λ (cache : FeedbackCache). SameLatest (Some r) cache.latest) (sym is) (same_record r)), ap (λ (cache : FeedbackCache). cache.sequence) is)
+  abbrev with_patch : FeedbackSnapshot → FeedbackSnapshot
+  with_patch r = patch_snapshot r status mos rotor
+
+  record_left : (l : Option FeedbackSnapshot) → s.head.feedback.latest ≡ l → (patched_session.head.feedback.latest ≡ option_map with_patch l) × (patched_session.head.feedback.sequence ≡ s.head.feedback.sequence)
+  record_left None e = let same = nothing_patched s status mos rotor e in (ap (λ (x : Session). x.head.feedback.latest) same ∙ e, ap (λ (x : Session). x.head.feedback.sequence) same)
+  record_left (Some r) e =
+      let is = record_after_patch s status mos rotor (patched s.head.feedback status mos rotor r) (patch_held s.head.feedback status mos rotor r e) in
+      (ap (λ (cache : FeedbackCache). cache.latest) is, ap (λ (cache : FeedbackCache). cache.sequence) is)
+
+  patch_leaves : PatchLeaves status mos rotor s patched_session
+  patch_leaves =
+      let kept = left s status mos rotor in
+      let of_record = record_left s.head.feedback.latest refl in
+      record {
+        motor = record { motor_id = kept.motor_id; feedback_id = kept.feedback_id; limits = kept.limits };
+        latest = of_record.0;
+        sequence = of_record.1;
+        last = kept.last;
+        replies = kept.replies;
+        acks = kept.acks;
+        run = kept.run;
+      }
 
 frame_motor : (s : Session) (f : CanFrame) (t : Instant) → Leaves (Call.Frame f t) s (step s (Call.Frame f t)).session
 unfolding Leaves step

@@ -1,5 +1,5 @@
 -- What holds of every list of calls on a session. Statements; `laws` in proofs/Laws.antt has their proofs.
-use Rattle.std.specs.Prelude.{ℕ, ◌+◌, ◌≤◌, ◌<◌, ◌^◌, length, ◌≡◌, Bool, List, [], ◌∷◌, ◌++◌, None, Option, Some, Ok, Err}
+use Rattle.std.specs.Prelude.{ℕ, ◌+◌, ◌≤◌, ◌<◌, ◌^◌, length, ◌≡◌, Bool, List, [], ◌∷◌, ◌++◌, None, Option, Some, Ok, Err, option_map}
 use Rattle.motor_core.specs.declared.bus.CanFrame.{CanFrame}
 use Rattle.motor_core.specs.declared.error.Refusal.TheVariants.{RunOpen}
 use Rattle.time.specs.declared.Instant.{Instant}
@@ -7,6 +7,7 @@ use Rattle.registers.specs.declared.RegisterValue.{RegisterValue}
 use Rattle.state_cache.specs.declared.Entry.{Entry}
 use Rattle.state_cache.specs.declared.Entry.TheVariants.{Empty, Held}
 use Rattle.state_cache.specs.declared.Place.{Place}
+use Rattle.state_feedback.specs.Feedback.{patch_snapshot}
 use Rattle.state_feedback.specs.declared.FeedbackSnapshot.{FeedbackSnapshot}
 use Rattle.run_want.specs.declared.Answer.{Answer}
 use Rattle.run_machine.specs.Machine.{RunResult}
@@ -35,25 +36,10 @@ pub record SameMotor (s after : Session) : Type 0 where
   pub feedback_id : after.head.feedback_id ≡ s.head.feedback_id
   pub limits : after.head.limits ≡ s.head.limits
 
--- of a record its number and stamp, and what the motor measured but for its temperatures
-pub record SameRecord (s after : FeedbackSnapshot) : Type 0 where
-  pub number : after.sequence ≡ s.sequence
-  pub stamp : after.received_at ≡ s.received_at
-  pub motor : after.state.can_id ≡ s.state.can_id
-  pub arbitration_id : after.state.arbitration_id ≡ s.state.arbitration_id
-  pub position : after.state.pos ≡ s.state.pos
-  pub velocity : after.state.vel ≡ s.state.vel
-  pub torque : after.state.torq ≡ s.state.torq
-
-abbrev pub SameLatest : Option FeedbackSnapshot → Option FeedbackSnapshot → Type 0
-SameLatest None None = Unit {0}
-SameLatest None (Some after) = ⊥
-SameLatest (Some s) None = ⊥
-SameLatest (Some s) (Some after) = SameRecord s after
-
-pub record PatchLeaves (s after : Session) : Type 0 where
+-- a patch makes of the latest record what `patch_snapshot` says, which leaves its number and stamp and what was measured but the temperatures, and changes nothing else
+pub record PatchLeaves (status mos rotor : ℕ) (s after : Session) : Type 0 where
   pub motor : SameMotor s after
-  pub latest : SameLatest s.head.feedback.latest after.head.feedback.latest
+  pub latest : after.head.feedback.latest ≡ option_map (λ (r : FeedbackSnapshot). patch_snapshot r status mos rotor) s.head.feedback.latest
   pub sequence : after.head.feedback.sequence ≡ s.head.feedback.sequence
   pub last : after.head.last ≡ s.head.last
   pub replies : after.replies ≡ s.replies
@@ -65,7 +51,7 @@ unfoldable pub Leaves : Call → Session → Session → Type 0
 Leaves (Call.Start start) s after = Unchanged s after × (after.head.last ≡ s.head.last)
 Leaves (Call.Answer answer) s after = Unchanged s after
 Leaves (Call.Frame frame reading) s after = SameMotor s after × (after.run ≡ s.run)
-Leaves (Call.Patch status mos rotor) s after = PatchLeaves s after
+Leaves (Call.Patch status mos rotor) s after = PatchLeaves status mos rotor s after
 
 -- ---- where an entry came from
 

@@ -40,7 +40,7 @@ use Rattle.law_calls.proofs.Traced.{Traced, traced}
 use Rattle.law_switch.specs.Claim.{wants_mode_read, wants_mode_write, mode_read, mode_write, OfSwitch, EachSwitch, Claim}
 use Rattle.law_switch.proofs.Ran.{machine, gave_want, gave_result, Ran, of_run, IsSwitch, stays_switch}
 use Rattle.law_switch.proofs.Started.{switching}
-use Rattle.law_switch.proofs.Success.{as_from_none, done_found, found_done}
+use Rattle.law_switch.proofs.Success.{done_found, found_done}
 use Rattle.law_switch.proofs.Told as Count
 
 -- ---- of one switch, by how it ran
@@ -111,7 +111,7 @@ module _ (h : Head) (mode : ControlMode) (timeout : Duration) (ts : List Turn) (
         closes = alone.closes;
         success = λ r e. (
           λ done. done_found h mode timeout end ts l how (subst (λ (x : RunResult). result_of ts ≡ Some x) done e),
-          λ f. ap (some_of r) (sym e ∙ found_done h mode timeout end ts Starting l None how (λ o is. absurd (none-some _ is)) (as_from_none motor (mode_number mode) first ts f)),
+          λ f. ap (some_of r) (sym e ∙ found_done h mode timeout end ts Starting l None how (λ o is. absurd (none-some _ is)) f),
         );
       }
 

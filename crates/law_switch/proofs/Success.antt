@@ -107,28 +107,6 @@ first_zero a b e = omega arith
 rest_zero : (a b : ℕ) → a + b ≡ 0 → b ≡ 0
 rest_zero a b e = omega arith
 
--- what `Found` says, where the last reading accepted before all these turns is `so_far`
-pub record FoundFrom (motor mode : ℕ) (so_far : Option Instant) (first : Gave) (ts : List Turn) : Type 0 where
-  before : List Turn
-  waited : List Turn
-  look : Turn
-  later : List Turn
-  opening : Instant
-  stamp : Instant
-  whole : ts ≡ before ++ (waited ++ (look ∷ later))
-  read : mode_read motor (gave_after first before) ≡ true
-  is_last : count (mode_read motor) (gaves (waited ++ (look ∷ later))) ≡ 0
-  opens : reading_after so_far before ≡ Some opening
-  looks : Looks waited look.answer
-  finds : look.sees (Reply 10) ≡ Held (UInt32 mode) stamp
-  fresh : opening.0 ≤ stamp.0
-
-from_none : (motor mode : ℕ) (first : Gave) (ts : List Turn) → FoundFrom motor mode None first ts → Found motor mode first ts
-from_none motor mode first ts f = record { before = f.before; waited = f.waited; look = f.look; later = f.later; opening = f.opening; stamp = f.stamp; whole = f.whole; read = f.read; is_last = f.is_last; opens = f.opens; looks = f.looks; finds = f.finds; fresh = f.fresh }
-
-pub as_from_none : (motor mode : ℕ) (first : Gave) (ts : List Turn) → Found motor mode first ts → FoundFrom motor mode None first ts
-as_from_none motor mode first ts f = record { before = f.before; waited = f.waited; look = f.look; later = f.later; opening = f.opening; stamp = f.stamp; whole = f.whole; read = f.read; is_last = f.is_last; opens = f.opens; looks = f.looks; finds = f.finds; fresh = f.fresh }
-
 module _ (h : Head) (mode : ControlMode) (timeout : Duration) where
   abbrev motor : ℕ
   motor = h.motor_id
@@ -140,7 +118,7 @@ module _ (h : Head) (mode : ControlMode) (timeout : Duration) where
   want_of p = gave_want h mode timeout p
 
   abbrev Succeeds : Option Instant → Gave → List Turn → Type 0
-  Succeeds r g ts = FoundFrom motor number r g ts
+  Succeeds r g ts = Found motor number r g ts
 
   -- counted of one turn
   abbrev reads_in : Gave → ℕ
@@ -329,11 +307,11 @@ module _ (h : Head) (mode : ControlMode) (timeout : Duration) where
       onward_sought p l r opened t ts k (λ q. Ran h mode timeout z q l' ts) (λ q ran o d. sought z ts q l' (reading_or t.answer r) ran o d) (switch_step mode timeout (seen p t) p t.answer) refl on done
 
   -- from the start on
-  pub done_found : (z : Session) (ts : List Turn) (l : Instant) → Ran h mode timeout z Starting l ts → result_of ts ≡ Some (Ok Outcome.Done) → Found motor number (want_of Starting) ts
+  pub done_found : (z : Session) (ts : List Turn) (l : Instant) → Ran h mode timeout z Starting l ts → result_of ts ≡ Some (Ok Outcome.Done) → Succeeds None (want_of Starting) ts
   done_found z ts l ran done = go (sought z ts Starting l None ran (λ o e. absurd (none-some _ e)) done)
     where
-      go : Sought None Starting ts → Found motor number (want_of Starting) ts
-      go (inl f) = from_none motor number (want_of Starting) ts f
+      go : Sought None Starting ts → Succeeds None (want_of Starting) ts
+      go (inl f) = f
       go (inr (w, e, x)) = absurd (none-some _ e)
 
   -- ---- found, so done

@@ -1,5 +1,5 @@
 -- Demand 3: what holds of every mode switch in every list of calls on one session: the last paragraph of document 01's 'The runs'. It stands on `law_calls`: `Calls` has the list, `Places` the last replies and acks that were taken, `Turns` a run's turns with its wants, its result and its sleeps. It speaks of the calls and of what they returned; the run's definition is asked only for what it wants. Definitions only.
-use Rattle.std.specs.Prelude.{ℕ, ◌/◌, ◌^◌, ◌≤◌, ◌<◌, ◌≡◌, Bool, true, false, not, ◌&&◌, ◌||◌, ◌↔◌, List, [], ◌∷◌, ◌++◌, eqb, length, None, Some, Ok, Err}
+use Rattle.std.specs.Prelude.{ℕ, ◌/◌, ◌^◌, ◌≤◌, ◌<◌, ◌≡◌, Bool, true, false, not, ◌&&◌, ◌||◌, ◌↔◌, List, [], ◌∷◌, ◌++◌, eqb, length, None, Option, Some, Ok, Err}
 use Rattle.motor_core.specs.declared.error.Refusal.TheVariants.{RunOpen}
 use Rattle.time.specs.declared.Instant.{Instant}
 use Rattle.time.specs.declared.Duration.{Duration}
@@ -69,8 +69,8 @@ unfoldable pub Looks : List Turn → Answer → Type 0
 Looks [] a = a ≡ Answer.Send (Ok tt)
 Looks (u ∷ us) a = (u.answer ≡ Answer.Send (Ok tt)) × (count (λ g. a_send g.told) (gaves (u ∷ us)) ≡ 0) × (a ≡ Answer.Slept)
 
--- The last read of register 10 is wanted after the turns `before` and opens with the last reading accepted by then; its look in the turn `look` finds a reply that holds the mode, stamped no earlier.
-pub record Found (motor mode : ℕ) (first : Gave) (ts : List Turn) : Type 0 where
+-- The last read of register 10 is wanted after the turns `before` and opens with the last reading accepted by then; its look in the turn `look` finds a reply that holds the mode, stamped no earlier. `so_far` is the last reading accepted before all these turns, which from a switch's start on is none.
+pub record Found (motor mode : ℕ) (so_far : Option Instant) (first : Gave) (ts : List Turn) : Type 0 where
   pub before : List Turn
   pub waited : List Turn
   pub look : Turn
@@ -80,7 +80,7 @@ pub record Found (motor mode : ℕ) (first : Gave) (ts : List Turn) : Type 0 whe
   pub whole : ts ≡ before ++ (waited ++ (look ∷ later))
   pub read : mode_read motor (gave_after first before) ≡ true
   pub is_last : count (mode_read motor) (gaves (waited ++ (look ∷ later))) ≡ 0
-  pub opens : reading_after None before ≡ Some opening
+  pub opens : reading_after so_far before ≡ Some opening
   pub looks : Looks waited look.answer
   pub finds : look.sees (Reply 10) ≡ Held (UInt32 mode) stamp
   pub fresh : opening.0 ≤ stamp.0
@@ -106,7 +106,7 @@ pub record OfSwitch (motor mode : ℕ) (first : Gave) (ts : List Turn) (end : Se
   pub refuses : result first ts ≡ None → (other : Start) → (step end (Call.Start other)).told ≡ Returned.Run (Err RunOpen)
   pub closes : (r : RunResult) → result first ts ≡ Some r → (gave_after first ts).wants ≡ None
   -- done exactly if the last read of register 10 found the mode
-  pub success : (r : RunResult) → result first ts ≡ Some r → (r ≡ Ok Done) ↔ Found motor mode first ts
+  pub success : (r : RunResult) → result first ts ≡ Some r → (r ≡ Ok Done) ↔ Found motor mode None first ts
 
 -- each switch, by its accepted start, in each list of calls from a fresh session
 abbrev pub EachSwitch : (ℕ → ℕ → Gave → List Turn → Session → Type 0) → Type 0
