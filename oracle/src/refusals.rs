@@ -12,7 +12,7 @@ pub const RUN_OPEN: Refused = Refused(8);
 pub const NOT_WANTED: Refused = Refused(9);
 pub const MODEL_UNKNOWN: Refused = Refused(12);
 
-const LAST_MOTOR_ID: u16 = 0xFCFF;
+const LAST_MOTOR_ID: u16 = 0x4FF;
 const LAST_READING: u64 = 1 << 62;
 const LONGEST_TIMEOUT: u64 = 60_000_000_000;
 

@@ -66,19 +66,19 @@ fn bench_cases() {
 #[test]
 fn command_frames() {
     check(
-        "write-reg 0x1234 37 0x11223344 => frame 2047 3412552544332211
-        read-reg 0xFCFF 255 => frame 2047 FFFC33FF00000000
+        "write-reg 0x123 37 0x11223344 => frame 2047 2301552544332211
+        read-reg 0x4FF 255 => frame 2047 FF0433FF00000000
         store-params 1 => frame 2047 0100AA0100000000
         feedback-request 0x0102 => frame 2047 0201CC0000000000
         disable 5 => frame 5 FFFFFFFFFFFFFFFD
         zero 5 => frame 5 FFFFFFFFFFFFFFFE
-        clear 0xFCFF => frame 64767 FFFFFFFFFFFFFFFB
-        pos-vel 0xFCFF 0x7F800001 0xFFC00123 => frame 65023 0100807F2301C0FF
-        vel 0xFCFF 0x7FA00000 => frame 65279 0000A07F00000000
-        force-pos 0xFCFF 0xFFFFFFFF 0x7FC00000 0xFF800000 => frame 65535 FFFFFFFF00000000
-        vel 0xFD00 0 => refused 2
-        mit 0xFD00 0 0x3F800000 0x3F800000 0 0 0 0 0 => refused 1
-        mit 0xFD00 0x3A800000 0x47800000 0x3F800000 0 0 0 0 0 => refused 2
+        clear 0x4FF => frame 1279 FFFFFFFFFFFFFFFB
+        pos-vel 0x4FF 0x7F800001 0xFFC00123 => frame 1535 0100807F2301C0FF
+        vel 0x4FF 0x7FA00000 => frame 1791 0000A07F00000000
+        force-pos 0x4FF 0xFFFFFFFF 0x7FC00000 0xFF800000 => frame 2047 FFFFFFFF00000000
+        vel 0x500 0 => refused 2
+        mit 0x500 0 0x3F800000 0x3F800000 0 0 0 0 0 => refused 1
+        mit 0x500 0x3A800000 0x47800000 0x3F800000 0 0 0 0 0 => refused 2
         mit 1 0x3A7FFFFF 0x3F800000 0x3F800000 0 0 0 0 0 => refused 1
         mit 1 0x3F800000 0x47800001 0x3F800000 0 0 0 0 0 => refused 1
         decode 0x3F800000 0x3F800000 0x7FC00000 0 => refused 1
@@ -95,9 +95,9 @@ fn refusals_in_their_order() {
         "session => no session
         get-u32 37 0 => no session
         clock x => bad line
-        start-model 4340X 0xFD00 1 => refused 12
-        start-model 4310 0xFD00 1 => refused 2
-        start-limits 0xFD00 1 0 0 0 => refused 1
+        start-model 4340X 0x500 1 => refused 12
+        start-model 4310 0x500 1 => refused 2
+        start-limits 0x500 1 0 0 0 => refused 1
         session => no session
         start-model 4310 1 0x11 => started
         clock 1 => refused 9

@@ -24,13 +24,11 @@ const ACK: u64 = 0x1100_550a_0100_0000;
 
 const ACK_TWO: u64 = 0x1100_550a_0200_0000;
 
-// Replies of register 80: a NaN, and the positions that make a frame which holds them the read of
-// register 10, for the motors 0x4FF and 0x6FF.
+// Replies of register 80: a NaN, and the position that makes a frame which holds it the read of
+// register 10, for the motor 0x4FF.
 const NAN_POSITION: u64 = 0x1100_3350_4523_c17f;
 
 const POSITION_4FF: u64 = 0x1f00_3350_ff04_330a;
-
-const POSITION_6FF: u64 = 0x1f00_3350_ff06_330a;
 
 // How a run begins: the calls on register 10, and the switch to a mode.
 #[derive(Clone, Copy)]
@@ -118,7 +116,6 @@ fn frame_of(letter: u8) -> Option<u64> {
         b'b' => Some(ACK_TWO),
         b'n' => Some(NAN_POSITION),
         b'p' => Some(POSITION_4FF),
-        b'q' => Some(POSITION_6FF),
         _ => None,
     }
 }
@@ -197,13 +194,6 @@ fn switches(rt: &impl Print) -> Result<(), Refusal> {
         0x4ff,
         Begin::Mode(1, MINUTE),
         b"555t55pssss",
-    )?;
-    play(
-        rt,
-        b"motor 6FF, position 0A3306FF:",
-        0x6ff,
-        Begin::Mode(1, MINUTE),
-        b"555t55qssss",
     )
 }
 

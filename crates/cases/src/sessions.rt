@@ -115,16 +115,16 @@ fn bits_of(entry: Entry) -> u64 {
     }
 }
 
-// The refusal of a start with the motor id FD00.
+// The refusal of a start with the motor id 500.
 fn limit_refusal(rt: &impl Print, name: &[u8], p_max: f32) {
-    line(rt, name, refusal(with_limit(0xfd00, p_max)));
+    line(rt, name, refusal(with_limit(0x500, p_max)));
 }
 
 fn model_refusal(rt: &impl Print, name: &[u8], model: &[u8]) {
     line(
         rt,
         name,
-        refusal(from_model(0xfd00, 0x11, &damiao_models(), model)),
+        refusal(from_model(0x500, 0x11, &damiao_models(), model)),
     );
 }
 
@@ -135,9 +135,9 @@ pub(crate) fn run(rt: &impl Print) -> Result<(), Refusal> {
     cached(rt, b"register 37: ", 37)?;
     readings(rt)?;
     patch_with_none(rt)?;
-    limit_refusal(rt, b"start with limit 0 and motor id FD00: ", 0.0);
-    model_refusal(rt, b"with an unknown name and motor id FD00: ", b"4311");
-    model_refusal(rt, b"with motor id FD00: ", b"4310");
+    limit_refusal(rt, b"start with limit 0 and motor id 500: ", 0.0);
+    model_refusal(rt, b"with an unknown name and motor id 500: ", b"4311");
+    model_refusal(rt, b"with motor id 500: ", b"4310");
     Ok(())
 }
 

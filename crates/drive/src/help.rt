@@ -54,7 +54,7 @@ const FIELDS: &[u8] = b"\
 
 const REFUSALS: &[u8] = b"\
     refused 1: a limit that is not from 1/1024 to 65536\n\
-    refused 2: a motor id above 0xFCFF\n\
+    refused 2: a motor id above 0x4FF\n\
     refused 3: a reading that goes back or lies above 2^62\n\
     refused 4: a register that is not known\n\
     refused 5: a register that is only read\n\

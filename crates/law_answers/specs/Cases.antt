@@ -93,7 +93,7 @@ asked = read_ten ∷ reading 5 ∷ sent ∷ []
 pub record Occurring (l : PvTLimits) (f : CanFrame) : Type 0 where
   -- each number
   pub limit : (of_start (from_limits 1 0x11 no_limits)).number ≡ 1
-  pub motor_id : (of_command (register_read_cmd 0xFD00 10)).number ≡ 2
+  pub motor_id : (of_command (register_read_cmd 0x500 10)).number ≡ 2
   pub frame_reading : number_after l [] (frame f beyond) ≡ 3
   pub earlier_frame : number_after l (frame f 5 ∷ []) (frame f 4) ≡ 3
   pub answer_reading : number_after l switching (reading beyond) ≡ 3
@@ -109,8 +109,8 @@ pub record Occurring (l : PvTLimits) (f : CanFrame) : Type 0 where
   pub query : (of_query (answer (record { p = nan; v = nan; t = nan }) [])).number ≡ 11
   pub model : (of_start (from_model 1 0x11 [] [])).number ≡ 12
   -- two rows are met
-  pub model_first : (of_start (from_model 0xFD00 0x11 [] [])).number ≡ 12
-  pub limit_before_motor_id : (of_start (from_limits 0xFD00 0x11 no_limits)).number ≡ 1
+  pub model_first : (of_start (from_model 0x500 0x11 [] [])).number ≡ 12
+  pub limit_before_motor_id : (of_start (from_limits 0x500 0x11 no_limits)).number ≡ 1
   pub run_open_before_mode : number_after l switching (switch 9 (millis 400)) ≡ 8
   pub mode_before_timeout : number_after l [] (switch 9 too_long) ≡ 10
   pub register_before_timeout : number_after l [] (Call.Start (GetRegisterU32 37 too_long)) ≡ 4

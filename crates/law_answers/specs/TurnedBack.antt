@@ -34,7 +34,7 @@ limit_out m = not (limit_accepted m.p_max) || (not (limit_accepted m.v_max) || n
 abbrev pub limit_row : Maxima → Row
 limit_row m = (limit_out m, 1)
 
--- motor id above 0xFCFF
+-- motor id above 0x4FF
 abbrev pub motor_id_row : ℕ → Row
 motor_id_row motor = (not (motor_id_accepted motor), 2)
 

@@ -1,4 +1,4 @@
--- A fresh session: its ids are those that were given, and nothing is held. Assumes nothing.
+-- A fresh session: its ids are those that were given, the motor's is accepted, and nothing is held. Assumes nothing.
 use Rattle.std.specs.Prelude.{Result, Ok, Err}
 use Prim.Native.Nat.{ℕ, ◌≤◌}
 use mathlib.Core.Path.{◌≡◌, refl, ap, subst}
@@ -27,7 +27,7 @@ use Rattle.law_calls.proofs.Sessions.{Sound}
 
 module _ (motor feedback : ℕ) (s : Session) where
   IsFresh : Type 0
-  IsFresh = (limits : PvTLimits) × (fresh motor feedback limits ≡ s)
+  IsFresh = (motor_id_accepted motor ≡ true) × (limits : PvTLimits) × (fresh motor feedback limits ≡ s)
 
   the_same : (x : Session) → ◌≡◌ {A = Result Session Refusal} (Ok x) (Ok s) → x ≡ s
   the_same x e = cc
@@ -35,11 +35,11 @@ module _ (motor feedback : ℕ) (s : Session) where
   limits_fresh : (check : Result PvTLimits Refusal) → and_then check (with_limits motor feedback) ≡ Ok s → IsFresh
   unfolding IsFresh
   limits_fresh (Err n) e = absurd (clash (cc))
-  limits_fresh (Ok limits) e = go (motor_id_accepted motor) e
+  limits_fresh (Ok limits) e = go (motor_id_accepted motor) refl e
     where
-      go : (b : Bool) → ◌≡◌ {A = Result Session Refusal} (cond b (Ok (fresh motor feedback limits)) (Err MotorId)) (Ok s) → IsFresh
-      go true e = (limits, the_same (fresh motor feedback limits) e)
-      go false e = absurd (clash (cc))
+      go : (b : Bool) → motor_id_accepted motor ≡ b → ◌≡◌ {A = Result Session Refusal} (cond b (Ok (fresh motor feedback limits)) (Err MotorId)) (Ok s) → IsFresh
+      go true accepted e = (accepted, limits, the_same (fresh motor feedback limits) e)
+      go false accepted e = absurd (clash (cc))
 
   name_fresh : (found : Result Maxima Refusal) → and_then found (from_limits motor feedback) ≡ Ok s → IsFresh
   unfolding from_limits
@@ -54,7 +54,11 @@ module _ (motor feedback : ℕ) (s : Session) where
   -- what holds of every fresh session holds of this one
   by_fresh : (P : Session → Type 0) → ((limits : PvTLimits) → P (fresh motor feedback limits)) → Fresh motor feedback s → P s
   unfolding IsFresh
-  by_fresh P all f = let (limits, e) = is_fresh f in subst P e (all limits)
+  by_fresh P all f = let (accepted, limits, e) = is_fresh f in subst P e (all limits)
+
+  pub fresh_accepted : Fresh motor feedback s → motor_id_accepted motor ≡ true
+  unfolding IsFresh
+  fresh_accepted f = (is_fresh f).0
 
   pub fresh_motor : Fresh motor feedback s → s.head.motor_id ≡ motor
   fresh_motor = by_fresh (λ x. x.head.motor_id ≡ motor) (fresh_motor_id motor feedback)

@@ -2,9 +2,10 @@
 use Rattle.std.specs.Prelude.{None, Option, Some}
 use Prim.Native.Nat.{ℕ}
 use mathlib.Core.Path.{◌≡◌, refl, sym, ap, ◌∙◌, subst}
-use mathlib.Core.Bool.{Bool, false}
+use mathlib.Core.Bool.{Bool, true, false}
 use mathlib.Core.List.{List, ◌∷◌}
 use native.Mathlib.Omega.{arith}
+use Rattle.motor_core.specs.Bus.{motor_id_accepted}
 use Rattle.time.specs.declared.Instant.{Instant}
 use Rattle.time.specs.declared.Duration.{Duration}
 use Rattle.protocol_hold.specs.Mode.{mode_number}
@@ -35,7 +36,7 @@ use Rattle.law_calls.specs.Turns.{Gave, Turn, turns_after, result_in, result_of,
 use Rattle.law_calls.proofs.Laws.{laws}
 use Rattle.std.proofs.lemmas.Option.{none-some}
 use Rattle.law_calls.proofs.Sessions.{list_sound, refused_leaves}
-use Rattle.law_calls.proofs.Started.{fresh_motor, fresh_sound}
+use Rattle.law_calls.proofs.Started.{fresh_accepted, fresh_motor, fresh_sound}
 use Rattle.law_calls.proofs.Traced.{Traced, traced}
 use Rattle.law_switch.specs.Claim.{wants_mode_read, wants_mode_write, mode_read, mode_write, OfSwitch, EachSwitch, Claim}
 use Rattle.law_switch.proofs.Ran.{machine, gave_want, gave_result, Ran, of_run, IsSwitch, stays_switch}
@@ -45,7 +46,7 @@ use Rattle.law_switch.proofs.Told as Count
 
 -- ---- of one switch, by how it ran
 
-module _ (h : Head) (mode : ControlMode) (timeout : Duration) (ts : List Turn) (end : Session) (l : Instant) (steps : Run.Ran h end (machine h mode timeout Starting) l ts) where
+module _ (h : Head) (accepted : motor_id_accepted h.motor_id ≡ true) (mode : ControlMode) (timeout : Duration) (ts : List Turn) (end : Session) (l : Instant) (steps : Run.Ran h end (machine h mode timeout Starting) l ts) where
   abbrev first : Gave
   first = gave_want h mode timeout Starting
 
@@ -74,7 +75,7 @@ module _ (h : Head) (mode : ControlMode) (timeout : Duration) (ts : List Turn) (
   -- counted in what was returned, or in what the definition wants: the same
   reads_as : counted_in (mode_read motor) ≡ wanted_in (counted 0 Count.mode_reads 0)
   unfolding a_want send_to
-  reads_as = by_phase (mode_read motor) (counted 0 Count.mode_reads 0) (λ p. Count.reads_count h mode p) (λ r. refl)
+  reads_as = by_phase (mode_read motor) (counted 0 Count.mode_reads 0) (λ p. Count.reads_count h accepted mode p) (λ r. refl)
 
   reads_wanted : counted_in (λ g. wants_send wants_mode_read g.wants) ≡ wanted_in (counted 0 Count.mode_reads 0)
   unfolding wants_send
@@ -82,7 +83,7 @@ module _ (h : Head) (mode : ControlMode) (timeout : Duration) (ts : List Turn) (
 
   writes_as : counted_in (mode_write motor) ≡ wanted_in (counted 0 Count.mode_writes 0)
   unfolding a_want send_to
-  writes_as = by_phase (mode_write motor) (counted 0 Count.mode_writes 0) (λ p. Count.writes_count h mode p) (λ r. refl)
+  writes_as = by_phase (mode_write motor) (counted 0 Count.mode_writes 0) (λ p. Count.writes_count h accepted mode p) (λ r. refl)
 
   writes_wanted : counted_in (λ g. wants_send wants_mode_write g.wants) ≡ wanted_in (counted 0 Count.mode_writes 0)
   unfolding wants_send
@@ -110,15 +111,16 @@ module _ (h : Head) (mode : ControlMode) (timeout : Duration) (ts : List Turn) (
         refuses = alone.refuses;
         closes = alone.closes;
         success = λ r e. (
-          λ done. done_found h mode timeout end ts l how (subst (λ (x : RunResult). result_of ts ≡ Some x) done e),
-          λ f. ap (some_of r) (sym e ∙ found_done h mode timeout end ts Starting l None how (λ o is. absurd (none-some _ is)) f),
+          λ done. done_found h accepted mode timeout end ts l how (subst (λ (x : RunResult). result_of ts ≡ Some x) done e),
+          λ f. ap (some_of r) (sym e ∙ found_done h accepted mode timeout end ts Starting l None how (λ o is. absurd (none-some _ is)) f),
         );
       }
 
 -- ---- of each switch in each list
 
--- a switch in a list: its steps, and what holds of every run
+-- a switch in a list: its motor's id, its steps, and what holds of every run
 pub record InList (h : Head) (mode : ControlMode) (timeout : Duration) (ts : List Turn) (end : Session) : Type 0 where
+  pub accepted : motor_id_accepted h.motor_id ≡ true
   pub steps : Run.Ran h end (machine h mode timeout Starting) h.last ts
   pub alone : Alone (gave_want h mode timeout Starting) ts end
   pub as_wanted : AsWanted (gave_want h mode timeout Starting) ts
@@ -143,6 +145,7 @@ each_switch P holds motor feedback s₀ fresh before n timeout after w e accepte
     (subst (λ (k : ℕ). P s.head.motor_id k began ts end) x.number
     (subst (λ (g : Gave). P s.head.motor_id (mode_number x.mode) g ts end) (sym first)
     (holds s.head x.mode timeout ts end record {
+      accepted = subst (λ (k : ℕ). motor_id_accepted k ≡ true) (sym id) (fresh_accepted motor feedback s₀ fresh);
       steps = subst (λ (m : Machine). Run.Ran s.head end m s.head.last ts) (sym x.opens) run.steps;
       alone = subst (λ (g : Gave). Alone g ts end) first run.alone;
       as_wanted = subst (λ (g : Gave). AsWanted g ts) first run.as_wanted;
@@ -152,5 +155,6 @@ each_switch P holds motor feedback s₀ fresh before n timeout after w e accepte
 pub claim : Claim
 claim = record {
   refusals = refused_leaves;
-  switches = each_switch OfSwitch (λ h mode timeout ts end x. bounded h mode timeout ts end h.last x.steps x.alone x.as_wanted x.at_most);
+  shares = λ motor accepted mode. (Count.hold_shares motor accepted mode, λ s. Count.shared_id motor mode s.0 s.1);
+  switches = each_switch OfSwitch (λ h mode timeout ts end x. bounded h x.accepted mode timeout ts end h.last x.steps x.alone x.as_wanted x.at_most);
 }

@@ -6,6 +6,7 @@ use mathlib.Core.Bool.{Bool, true, true≢false}
 use mathlib.Core.Logic.{◌⊎◌, inl, inr}
 use mathlib.Core.List.{List, [], ◌∷◌, ◌++◌}
 use native.Mathlib.Omega.{arith}
+use Rattle.motor_core.specs.Bus.{motor_id_accepted}
 use Rattle.time.specs.declared.Instant.{Instant}
 use Rattle.time.specs.declared.Duration.{Duration}
 use Rattle.registers.specs.declared.RegisterValue.TheVariants.{UInt32}
@@ -107,7 +108,7 @@ first_zero a b e = omega arith
 rest_zero : (a b : ℕ) → a + b ≡ 0 → b ≡ 0
 rest_zero a b e = omega arith
 
-module _ (h : Head) (mode : ControlMode) (timeout : Duration) where
+module _ (h : Head) (accepted : motor_id_accepted h.motor_id ≡ true) (mode : ControlMode) (timeout : Duration) where
   abbrev motor : ℕ
   motor = h.motor_id
 
@@ -133,7 +134,7 @@ module _ (h : Head) (mode : ControlMode) (timeout : Duration) where
   -- what a read that is sent wants is a read of register 10
   pub is_read : (p : Switch) (o : Instant) → mode_ask p ≡ Some (Sending o) → mode_read motor (want_of p) ≡ true
   unfolding wants_send wants_mode_read
-  is_read p o e = reads_alike h mode p ∙ ap (λ (w : Want Message). wants_send wants_mode_read (Some w)) (in_read mode p (Sending o) e).0
+  is_read p o e = reads_alike h accepted mode p ∙ ap (λ (w : Want Message). wants_send wants_mode_read (Some w)) (in_read mode p (Sending o) e).0
 
   -- and what it wants in its wait is no send
   no_read : (w : Want Message) (x : Wait) → w ≡ wait_want x → reads_in (record { told = Ok (Told.Want (caller_want h w)); wants = Some w }) ≡ 0
@@ -323,7 +324,7 @@ module _ (h : Head) (mode : ControlMode) (timeout : Duration) where
   silent_want (Sleep length) e s = s
 
   reads_at : (p : Switch) → mode_read motor (want_of p) ≡ true → (o : Instant) × (mode_ask p ≡ Some (Sending o))
-  reads_at p e = ask_of mode p (sym (reads_alike h mode p) ∙ e)
+  reads_at p e = ask_of mode p (sym (reads_alike h accepted mode p) ∙ e)
 
   module _ (z : Session) where
     abbrev Runs : Switch → Instant → List Turn → Type 0

@@ -1,12 +1,14 @@
 -- What a phase gives, as the claim counts it, is what the phase wants. Assumes nothing.
 use Rattle.std.specs.Prelude.{Some, Ok}
-use Prim.Native.Nat.{ℕ, ◌/◌, ◌^◌}
+use Prim.Native.Nat.{ℕ, ◌+◌, ◌/◌, ◌^◌}
 use mathlib.Core.Path.{◌≡◌, refl, sym, ap, ◌∙◌, subst}
 use mathlib.Core.Bool.{Bool, true, false, not, ◌&&◌, ◌||◌, true≢false}
 use mathlib.Core.Logic.{◌⊎◌, inl, inr}
 use native.Mathlib.Omega.{arith}
-use borrow.Author.Tests.{eq-eqb, ne_eqb}
+use borrow.Author.Tests.{eq-eqb, eqb-true, ne_eqb}
 use lib.Dec.{eqb}
+use Rattle.motor_core.proofs.Ids.{accepted_fits}
+use Rattle.motor_core.specs.Bus.{motor_id_accepted}
 use Rattle.registers.specs.Value.{bits_of}
 use Rattle.protocol_frame.specs.Layout.{packed_onto, little_endian, bytes}
 use Rattle.protocol_frame.specs.Command.{command}
@@ -122,25 +124,31 @@ module _ (motor : ℕ) where
   unfolding register_read_data register_write_data addressed packed_onto little_endian bytes
   read_no_write rid = ne_eqb (register_read_data motor rid / 2 ^ 32) (register_write_data motor 10 0 / 2 ^ 32) (λ e. omega (arith, e))
 
-  -- a setpoint goes to 0x7FF only from the ids that share it
-  hold_off : (mode : ControlMode) → shares_7ff motor ≡ false → eqb (hold_id motor mode) 0x7ff ≡ false
+  -- the id that shares it does so by the force-position mode's
+  pub shared_id : (mode : ControlMode) → shares_7ff motor ≡ true → mode ≡ ForcePos → hold_id motor mode ≡ 0x7ff
   unfolding shares_7ff
-  hold_off mode off = ne_eqb (hold_id motor mode) 0x7ff (λ e. true≢false (sym (at mode e) ∙ off))
-    where
-      at : (m : ControlMode) → hold_id motor m ≡ 0x7ff → shares_7ff motor ≡ true
-      at Mit e = ap shares_7ff e
-      at PosVel e = let is : motor ≡ 0x6ff = omega arith in ap shares_7ff is
-      at Vel e = let is : motor ≡ 0x5ff = omega arith in ap shares_7ff is
-      at ForcePos e = let is : motor ≡ 0x4ff = omega arith in ap shares_7ff is
+  shared_id mode shares is = ap (hold_id motor) is ∙ ap (λ (k : ℕ). 0x300 + k) (eqb-true motor 0x4ff shares)
 
-  -- so it is neither, by its id or by what the definition wants
-  hold_neither : (of : ℕ → Bool) (mode : ControlMode) (bytes : ℕ) → (on_7ff of (Ok (Told.Want (Wanted.Send (command (hold_id motor mode) bytes)))) && (not (shares_7ff motor) || false)) ≡ false
-  unfolding a_want send_to
-  hold_neither of mode bytes = go (shares_7ff motor) refl
-    where
-      go : (b : Bool) → shares_7ff motor ≡ b → ((eqb (hold_id motor mode) 0x7ff && of bytes) && (not b || false)) ≡ false
-      go true e = both_false (eqb (hold_id motor mode) 0x7ff && of bytes)
-      go false e = ap (λ (x : Bool). (x && of bytes) && true) (hold_off mode e)
+  module _ (accepted : motor_id_accepted motor ≡ true) where
+    -- a setpoint goes to 0x7FF only from the id that shares it
+    pub hold_shares : (mode : ControlMode) → hold_id motor mode ≡ 0x7ff → (shares_7ff motor ≡ true) × (mode ≡ ForcePos)
+    unfolding shares_7ff
+    hold_shares Mit e = absurd (omega (arith, e, (accepted_fits motor).0 accepted))
+    hold_shares PosVel e = absurd (omega (arith, e, (accepted_fits motor).0 accepted))
+    hold_shares Vel e = absurd (omega (arith, e, (accepted_fits motor).0 accepted))
+    hold_shares ForcePos e = (eq-eqb motor 0x4ff (omega (arith, e)), refl)
+
+    hold_off : (mode : ControlMode) → shares_7ff motor ≡ false → eqb (hold_id motor mode) 0x7ff ≡ false
+    hold_off mode off = ne_eqb (hold_id motor mode) 0x7ff (λ e. true≢false (sym (hold_shares mode e).0 ∙ off))
+
+    -- so it is neither, by its id or by what the definition wants
+    hold_neither : (of : ℕ → Bool) (mode : ControlMode) (bytes : ℕ) → (on_7ff of (Ok (Told.Want (Wanted.Send (command (hold_id motor mode) bytes)))) && (not (shares_7ff motor) || false)) ≡ false
+    unfolding a_want send_to
+    hold_neither of mode bytes = go (shares_7ff motor) refl
+      where
+        go : (b : Bool) → shares_7ff motor ≡ b → ((eqb (hold_id motor mode) 0x7ff && of bytes) && (not b || false)) ≡ false
+        go true e = both_false (eqb (hold_id motor mode) 0x7ff && of bytes)
+        go false e = ap (λ (x : Bool). (x && of bytes) && true) (hold_off mode e)
 
 module _ (h : Head) where
   -- what a want gives
@@ -149,44 +157,6 @@ module _ (h : Head) where
 
   abbrev motor : ℕ
   motor = h.motor_id
-
-  reads_own : (mode : ControlMode) (w : Want Message) → Own mode w → mode_read motor (gives_want w) ≡ wants_send wants_mode_read (Some w)
-  unfolding a_want send_to wants_send wants_mode_read any
-  reads_own mode Clock o = refl
-  reads_own mode (Send (ReadRegister rid)) (inl e) =
-      subst (λ (r : ℕ). mode_read motor (gives_want (Send (ReadRegister r))) ≡ wants_send wants_mode_read (Some (Send (ReadRegister r)))) (sym e)
-      (λ i. eq-eqb (register_read_data motor 10) (register_read_data motor 10) refl i && or_true (not (shares_7ff motor)) i)
-  reads_own mode (Send (ReadRegister rid)) (inr e) =
-      subst (λ (r : ℕ). mode_read motor (gives_want (Send (ReadRegister r))) ≡ wants_send wants_mode_read (Some (Send (ReadRegister r)))) (sym e)
-      (left_false (eqb (register_read_data motor 80) (register_read_data motor 10)) _ (read_80 motor))
-  reads_own mode (Send (WriteRegister rid bits)) o =
-      left_false (eqb (register_write_data motor rid bits) (register_read_data motor 10)) _
-      ((λ i. eqb (register_write_data motor (o.0 i) (o.1 i)) (register_read_data motor 10)) ∙ write_no_read motor mode)
-  reads_own mode (Send RequestFeedback) o = absurd o
-  reads_own mode (Send Disable) o = absurd o
-  reads_own mode (Send StoreParams) o = absurd o
-  reads_own mode (Send (Setpoint m position)) o = hold_neither motor (read_bytes motor) m (hold_data h.limits m position.0)
-  reads_own mode (Sleep length) o = refl
-
-  writes_own : (mode : ControlMode) (w : Want Message) → Own mode w → mode_write motor (gives_want w) ≡ wants_send wants_mode_write (Some w)
-  unfolding a_want send_to wants_send wants_mode_write
-  writes_own mode Clock o = refl
-  writes_own mode (Send (ReadRegister rid)) o = left_false (write_bytes motor (register_read_data motor rid)) _ (read_no_write motor rid)
-  writes_own mode (Send (WriteRegister rid bits)) o =
-      (λ i. write_bytes motor (register_write_data motor (o.0 i) (o.1 i)) && (not (shares_7ff motor) || eqb (o.0 i) 10))
-      ∙ (λ i. a_write motor mode i && or_true (not (shares_7ff motor)) i)
-      ∙ sym (ap (λ (r : ℕ). eqb r 10) o.0)
-  writes_own mode (Send RequestFeedback) o = absurd o
-  writes_own mode (Send Disable) o = absurd o
-  writes_own mode (Send StoreParams) o = absurd o
-  writes_own mode (Send (Setpoint m position)) o = hold_neither motor (write_bytes motor) m (hold_data h.limits m position.0)
-  writes_own mode (Sleep length) o = refl
-
-  pub reads_alike : (mode : ControlMode) (p : Switch) → mode_read motor (gives_want (switch_want mode p)) ≡ wants_send wants_mode_read (Some (switch_want mode p))
-  reads_alike mode p = reads_own mode (switch_want mode p) (own mode p)
-
-  pub writes_alike : (mode : ControlMode) (p : Switch) → mode_write motor (gives_want (switch_want mode p)) ≡ wants_send wants_mode_write (Some (switch_want mode p))
-  writes_alike mode p = writes_own mode (switch_want mode p) (own mode p)
 
   of_label : (m : Message) → (once (wants_mode_read m) ≡ mode_reads (label m)) × (once (wants_mode_write m) ≡ mode_writes (label m))
   unfolding wants_mode_read wants_mode_write
@@ -203,8 +173,47 @@ module _ (h : Head) where
   pub writes_weight : (w : Want Message) → once (wants_send wants_mode_write (Some w)) ≡ counted 0 mode_writes 0 w
   writes_weight = message_weight h wants_mode_write mode_writes (λ m. (of_label m).1)
 
-  pub reads_count : (mode : ControlMode) (p : Switch) → once (mode_read motor (gives_want (switch_want mode p))) ≡ counted 0 mode_reads 0 (switch_want mode p)
-  reads_count mode p = ap once (reads_alike mode p) ∙ reads_weight (switch_want mode p)
+  module _ (accepted : motor_id_accepted motor ≡ true) where
+    reads_own : (mode : ControlMode) (w : Want Message) → Own mode w → mode_read motor (gives_want w) ≡ wants_send wants_mode_read (Some w)
+    unfolding a_want send_to wants_send wants_mode_read any
+    reads_own mode Clock o = refl
+    reads_own mode (Send (ReadRegister rid)) (inl e) =
+        subst (λ (r : ℕ). mode_read motor (gives_want (Send (ReadRegister r))) ≡ wants_send wants_mode_read (Some (Send (ReadRegister r)))) (sym e)
+        (λ i. eq-eqb (register_read_data motor 10) (register_read_data motor 10) refl i && or_true (not (shares_7ff motor)) i)
+    reads_own mode (Send (ReadRegister rid)) (inr e) =
+        subst (λ (r : ℕ). mode_read motor (gives_want (Send (ReadRegister r))) ≡ wants_send wants_mode_read (Some (Send (ReadRegister r)))) (sym e)
+        (left_false (eqb (register_read_data motor 80) (register_read_data motor 10)) _ (read_80 motor))
+    reads_own mode (Send (WriteRegister rid bits)) o =
+        left_false (eqb (register_write_data motor rid bits) (register_read_data motor 10)) _
+        ((λ i. eqb (register_write_data motor (o.0 i) (o.1 i)) (register_read_data motor 10)) ∙ write_no_read motor mode)
+    reads_own mode (Send RequestFeedback) o = absurd o
+    reads_own mode (Send Disable) o = absurd o
+    reads_own mode (Send StoreParams) o = absurd o
+    reads_own mode (Send (Setpoint m position)) o = hold_neither motor accepted (read_bytes motor) m (hold_data h.limits m position.0)
+    reads_own mode (Sleep length) o = refl
 
-  pub writes_count : (mode : ControlMode) (p : Switch) → once (mode_write motor (gives_want (switch_want mode p))) ≡ counted 0 mode_writes 0 (switch_want mode p)
-  writes_count mode p = ap once (writes_alike mode p) ∙ writes_weight (switch_want mode p)
+    writes_own : (mode : ControlMode) (w : Want Message) → Own mode w → mode_write motor (gives_want w) ≡ wants_send wants_mode_write (Some w)
+    unfolding a_want send_to wants_send wants_mode_write
+    writes_own mode Clock o = refl
+    writes_own mode (Send (ReadRegister rid)) o = left_false (write_bytes motor (register_read_data motor rid)) _ (read_no_write motor rid)
+    writes_own mode (Send (WriteRegister rid bits)) o =
+        (λ i. write_bytes motor (register_write_data motor (o.0 i) (o.1 i)) && (not (shares_7ff motor) || eqb (o.0 i) 10))
+        ∙ (λ i. a_write motor mode i && or_true (not (shares_7ff motor)) i)
+        ∙ sym (ap (λ (r : ℕ). eqb r 10) o.0)
+    writes_own mode (Send RequestFeedback) o = absurd o
+    writes_own mode (Send Disable) o = absurd o
+    writes_own mode (Send StoreParams) o = absurd o
+    writes_own mode (Send (Setpoint m position)) o = hold_neither motor accepted (write_bytes motor) m (hold_data h.limits m position.0)
+    writes_own mode (Sleep length) o = refl
+
+    pub reads_alike : (mode : ControlMode) (p : Switch) → mode_read motor (gives_want (switch_want mode p)) ≡ wants_send wants_mode_read (Some (switch_want mode p))
+    reads_alike mode p = reads_own mode (switch_want mode p) (own mode p)
+
+    pub writes_alike : (mode : ControlMode) (p : Switch) → mode_write motor (gives_want (switch_want mode p)) ≡ wants_send wants_mode_write (Some (switch_want mode p))
+    writes_alike mode p = writes_own mode (switch_want mode p) (own mode p)
+
+    pub reads_count : (mode : ControlMode) (p : Switch) → once (mode_read motor (gives_want (switch_want mode p))) ≡ counted 0 mode_reads 0 (switch_want mode p)
+    reads_count mode p = ap once (reads_alike mode p) ∙ reads_weight (switch_want mode p)
+
+    pub writes_count : (mode : ControlMode) (p : Switch) → once (mode_write motor (gives_want (switch_want mode p))) ≡ counted 0 mode_writes 0 (switch_want mode p)
+    writes_count mode p = ap once (writes_alike mode p) ∙ writes_weight (switch_want mode p)

@@ -3,6 +3,7 @@ use Rattle.std.specs.Prelude.{Some, Ok}
 use mathlib.Core.Path.{◌≡◌, refl, sym, ◌∙◌, subst}
 use mathlib.Core.Bool.{true, true≢false}
 use mathlib.Core.List.{List, [], ◌∷◌}
+use Rattle.motor_core.specs.Bus.{motor_id_accepted}
 use Rattle.protocol_frame.specs.Command.{command}
 use Rattle.protocol_hold.specs.Mode.{mode_number}
 use Rattle.protocol_hold.specs.declared.ControlMode.{ControlMode}
@@ -51,9 +52,9 @@ module _ (h : Head) (mode : ControlMode) where
   abbrev IfWrite : Gave → Type 0
   IfWrite g = mode_write h.motor_id g ≡ true → OfMode h.motor_id (mode_number mode) g
 
-  module _ (timeout : Duration) (end : Session) where
+  module _ (accepted : motor_id_accepted h.motor_id ≡ true) (timeout : Duration) (end : Session) where
     of_phase : (p : Switch) → IfWrite (gave_want h mode timeout p)
-    of_phase p e = own_write (switch_want mode p) (own mode p) (sym (writes_alike h mode p) ∙ e)
+    of_phase p e = own_write (switch_want mode p) (own mode p) (sym (writes_alike h accepted mode p) ∙ e)
 
     of_result : (r : RunResult) → IfWrite (gave_result h mode timeout r)
     unfolding a_want
@@ -82,6 +83,6 @@ unfolding AllOfMode
 written = each_switch (λ motor mode first ts end. Written motor mode first ts) (λ h mode timeout ts end x.
     let how = of_run h mode timeout end ts Starting h.last x.steps in
     record {
-      writes = (of_phase h mode timeout end Starting, all_of_mode h mode timeout end ts Starting h.last how);
-      first_reads = reading_first h mode timeout end ts h.last how;
+      writes = (of_phase h mode x.accepted timeout end Starting, all_of_mode h mode x.accepted timeout end ts Starting h.last how);
+      first_reads = reading_first h mode x.accepted timeout end ts h.last how;
     })

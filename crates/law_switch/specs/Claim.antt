@@ -1,10 +1,14 @@
 -- Demand 3: what holds of every mode switch in every list of calls on one session: the last paragraph of document 01's 'The runs'. It stands on `law_calls`: `Calls` has the list, `Places` the last replies and acks that were taken, `Turns` a run's turns with its wants, its result and its sleeps. It speaks of the calls and of what they returned; the run's definition is asked only for what it wants. Definitions only.
 use Rattle.std.specs.Prelude.{ℕ, ◌/◌, ◌^◌, ◌≤◌, ◌<◌, ◌≡◌, Bool, true, false, not, ◌&&◌, ◌||◌, ◌↔◌, List, [], ◌∷◌, ◌++◌, eqb, length, None, Option, Some, Ok, Err}
+use Rattle.motor_core.specs.Bus.{motor_id_accepted}
 use Rattle.motor_core.specs.declared.error.Refusal.TheVariants.{RunOpen}
 use Rattle.time.specs.declared.Instant.{Instant}
 use Rattle.time.specs.declared.Duration.{Duration}
 use Rattle.registers.specs.declared.RegisterValue.TheVariants.{UInt32}
 use Rattle.protocol_request.specs.Request.{request_id, register_read_data, register_write_data}
+use Rattle.protocol_hold.specs.Mode.{hold_id}
+use Rattle.protocol_hold.specs.declared.ControlMode.{ControlMode}
+use Rattle.protocol_hold.specs.declared.ControlMode.TheVariants.{ForcePos}
 use Rattle.state_cache.specs.declared.Entry.TheVariants.{Held}
 use Rattle.state_cache.specs.declared.Place.TheVariants.{Reply}
 use Rattle.run_want.specs.declared.Answer.{Answer}
@@ -35,9 +39,9 @@ read_bytes motor bytes = eqb bytes (register_read_data motor 10)
 abbrev pub write_bytes : ℕ → ℕ → Bool
 write_bytes motor bytes = eqb (bytes / 2 ^ 32) (register_write_data motor 10 0 / 2 ^ 32)
 
--- the motor ids that put a setpoint frame on 0x7FF too
+-- the motor id that puts a setpoint frame on 0x7FF too; of those that are accepted it is the only one, by `shares` of the claim
 unfoldable pub shares_7ff : ℕ → Bool
-shares_7ff motor = eqb motor 0x7ff || (eqb motor 0x6ff || (eqb motor 0x5ff || eqb motor 0x4ff))
+shares_7ff motor = eqb motor 0x4ff
 
 unfoldable pub wants_mode_read : Message → Bool
 wants_mode_read (ReadRegister rid) = eqb rid 10
@@ -122,4 +126,6 @@ EachSwitch P = (motor feedback : ℕ) (s₀ : Session) → Fresh motor feedback 
 pub record Claim : Type 0 where
   -- a refused call leaves the session that it got
   pub refusals : (s : Session) (c : Call) → IsRefusal (step s c).told → (step s c).session ≡ s
+  -- of the motor ids that are accepted only the one that shares 0x7FF puts a mode's setpoints there, those of the force-position mode
+  pub shares : (motor : ℕ) → motor_id_accepted motor ≡ true → (mode : ControlMode) → (hold_id motor mode ≡ request_id) ↔ ((shares_7ff motor ≡ true) × (mode ≡ ForcePos))
   pub switches : EachSwitch OfSwitch

@@ -1,3 +1,4 @@
+pub mod Ids
 pub mod Limits
 pub mod Spelt
 pub mod Turned

@@ -10,9 +10,9 @@ pub struct CanFrame {
     pub is_extended: bool,
 }
 
-// Whether a motor id leaves room for 0x300 above it in 16 bits.
+// Whether a motor id leaves room for 0x300 above it in the 11 bits of an id on the bus.
 pub fn accepts_motor_id(motor_id: u16) -> bool
     ensures { result ≡ motor_id_accepted motor_id }
 {
-    motor_id <= 0xfcff
+    motor_id <= 0x4ff
 }

@@ -531,9 +531,9 @@ impl Runs {
     }
 }
 
-/// Whether frames that hold a position go where registers are read and written.
+/// Whether a frame that holds a position goes where registers are read and written.
 fn on_7ff(session: &Session) -> bool {
-    matches!(session.motor_id(), 0x4FF | 0x6FF)
+    session.motor_id() == 0x4FF
 }
 
 /// What a sent frame asks of the motor.

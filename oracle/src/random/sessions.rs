@@ -35,7 +35,7 @@ pub fn start(rng: &mut Rng) -> Vec<u8> {
 
 /// A start that is refused, for one reason or for two: the session in use goes on.
 fn refused_start(rng: &mut Rng) -> Vec<u8> {
-    let motor: u16 = rng.pick(&[1, 0xFCFF, 0xFD00, 0xFFFF]);
+    let motor: u16 = rng.pick(&[1, 0x4FF, 0x500, 0xFFFF]);
     if rng.chance(50) {
         return Text::new("start-model")
             .word(b"4340X")

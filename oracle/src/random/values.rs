@@ -208,14 +208,14 @@ fn limit_difference(rng: &mut Rng) -> f32 {
     (f32::from_bits(one[at]) - f32::from_bits(other[at])).abs()
 }
 
+/// Mostly accepted.
 pub fn motor_id(rng: &mut Rng) -> u16 {
     match rng.below(16) {
         0..=6 => rng.below(32) as u16,
-        7..=9 => rng.pick(&[0x4FF, 0x6FF, 0x7FF, 0x5FF]),
-        10 => rng.pick(&[0x4FE, 0x500, 0x6FE, 0x700, 0x7FE, 0x800]),
-        11 | 12 => 0xFCFF,
-        13 => rng.pick(&[0xFD00, 0xFFFF, 0xFE00]),
-        14 => rng.below(0xFD00) as u16,
+        7..=9 => 0x4FF,
+        10 => rng.pick(&[0xFF, 0x100, 0x3FF, 0x4FE]),
+        11..=13 => rng.below(0x500) as u16,
+        14 => rng.pick(&[0x500, 0x5FF, 0x6FF, 0x7FF, 0xFCFF, 0xFD00, 0xFFFF]),
         _ => rng.next() as u16,
     }
 }
