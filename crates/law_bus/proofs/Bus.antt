@@ -1,8 +1,8 @@
 -- Every frame that is sent has an id of 11 bits. Assumes nothing.
 use Rattle.std.specs.Prelude.{Result, Ok, Err}
 use Prim.Native.Nat.{ℕ}
-use mathlib.Core.Path.{◌≡◌, refl, sym, ◌∙◌, subst}
-use mathlib.Core.Bool.{Bool, true, false, cond}
+use mathlib.Core.Path.{◌≡◌, sym, ◌∙◌, subst}
+use mathlib.Core.Bool.{true}
 use native.Mathlib.Omega.{arith}
 use Rattle.motor_core.proofs.Ids.{accepted_fits}
 use Rattle.motor_core.proofs.Turned.{clash}
@@ -10,10 +10,10 @@ use Rattle.motor_core.specs.AndThen.{and_then}
 use Rattle.motor_core.specs.Bus.{id_fits, motor_id_accepted}
 use Rattle.motor_core.specs.Model.{limits_of}
 use Rattle.motor_core.specs.declared.error.Refusal.{Refusal}
-use Rattle.motor_core.specs.declared.error.Refusal.TheVariants.{MotorId}
 use Rattle.motor_core.specs.declared.model.Maxima.{Maxima}
 use Rattle.motor_core.specs.declared.model.PvTLimits.{PvTLimits}
-use Rattle.protocol_frame.specs.Command.{command, frame_for}
+use Rattle.protocol_frame.proofs.Answered.{answered}
+use Rattle.protocol_frame.specs.Command.{frame_for}
 use Rattle.protocol_frame.specs.declared.Command.{Command}
 use Rattle.protocol_setpoint.specs.Setpoint.{mit_data, mit_cmd}
 use Rattle.protocol_setpoint.specs.declared.MitSetpoint.{MitSetpoint}
@@ -46,22 +46,14 @@ use Rattle.law_bus.specs.Bus.{FrameFits, SendFits, Commands, Bus}
 
 module _ (motor : ℕ) where
   frame_fits : (id bits : ℕ) → (motor_id_accepted motor ≡ true → id_fits id) → FrameFits (frame_for motor id bits)
-  unfolding frame_for
-  frame_fits id bits fits c e = go (motor_id_accepted motor) refl e
-    where
-      the_same : ◌≡◌ {A = Result Command Refusal} (Ok (command id bits)) (Ok c) → command id bits ≡ c
-      the_same e = cc
-
-      go : (b : Bool) → motor_id_accepted motor ≡ b → ◌≡◌ {A = Result Command Refusal} (cond b (Ok (command id bits)) (Err MotorId)) (Ok c) → id_fits c.arbitration_id
-      go true accepted e = subst (λ (x : Command). id_fits x.arbitration_id) (the_same e) (fits accepted)
-      go false accepted e = absurd (clash (cc))
+  frame_fits id bits fits c e = let (accepted, same) = answered motor id bits c e in omega (arith, same, fits accepted)
 
   mit_fits : (m : Maxima) (s : MitSetpoint) → FrameFits (mit_cmd motor m s)
   unfolding mit_cmd
   mit_fits m s c e = go (limits_of m) e
     where
       go : (check : Result PvTLimits Refusal) → and_then check (λ l. frame_for motor motor (mit_data l s)) ≡ Ok c → id_fits c.arbitration_id
-      go (Ok l) e = frame_fits motor (mit_data l s) (λ a. hold_fits motor a Mit) c e
+      go (Ok l) e = let fits = frame_fits motor (mit_data l s) (λ a. hold_fits motor a Mit) c e in omega (arith, fits)
       go (Err n) e = absurd (clash (cc))
 
   -- on the motor's own id, and on 0x7FF
@@ -106,7 +98,7 @@ want_fits h accepted (Sleep length) c e = absurd (clash (cc))
 
 -- what a start or an answer tells is what the run that it leaves wants
 told_fits : (s after : Session) → motor_id_accepted after.head.motor_id ≡ true → (told : Answered) → Follows s told after → SendFits (Returned.Run told)
-told_fits s after accepted (Ok (Told.Want want)) follows c e = want_fits after.head accepted (machine_want follows.machine) c (sym follows.tells ∙ the_same e)
+told_fits s after accepted (Ok (Told.Want want)) follows c e = omega (arith, want_fits after.head accepted (machine_want follows.machine) c (sym follows.tells ∙ the_same e))
   where
     the_same : Returned.Run (Ok (Told.Want want)) ≡ Returned.Run (Ok (Told.Want (Send c))) → want ≡ Send c
     the_same e = cc
@@ -122,7 +114,7 @@ call_fits s (Call.Patch status mos rotor) accepted = λ c e. absurd (clash (cc))
 
 pub bus : Bus
 bus = record {
-  accepted = accepted_fits;
+  accepted = λ motor. (λ a. omega (arith, (accepted_fits motor).0 a), λ fits. (accepted_fits motor).1 (omega (arith, fits)));
   commands = commands;
   messages = message_fits;
   sends = λ motor feedback s fresh before c.

@@ -40,7 +40,7 @@ pub record Commands : Type 0 where
   pub clear_error : (motor : ℕ) → FrameFits (clear_error_cmd motor)
 
 pub record Bus : Type 0 where
-  -- a motor id is accepted just if the highest id that it sends on, force-position's, fits
+  -- a motor id is accepted exactly if the highest of its setpoints' ids, force-position's, fits
   pub accepted : (motor : ℕ) → (motor_id_accepted motor ≡ true) ↔ id_fits (force_pos_id motor)
   pub commands : Commands
   -- each message of a run

@@ -2,14 +2,13 @@
 use Rattle.std.specs.Prelude.{Result, Ok, Err}
 use Prim.Native.Nat.{ℕ, ◌≤◌}
 use mathlib.Core.Path.{◌≡◌, refl, ap, subst}
-use mathlib.Core.Bool.{Bool, true, false, cond}
+use mathlib.Core.Bool.{true}
 use native.Mathlib.Omega.{arith}
 use Rattle.motor_core.proofs.Turned.{clash}
 use Rattle.motor_core.specs.AndThen.{and_then}
 use Rattle.motor_core.specs.Bus.{motor_id_accepted}
 use Rattle.motor_core.specs.Model.{limits_of}
 use Rattle.motor_core.specs.declared.error.Refusal.{Refusal}
-use Rattle.motor_core.specs.declared.error.Refusal.TheVariants.{MotorId}
 use Rattle.motor_core.specs.declared.model.Maxima.{Maxima}
 use Rattle.motor_core.specs.declared.model.PvTLimits.{PvTLimits}
 use Rattle.model_list.specs.Models.{limits_by_name}
@@ -17,6 +16,7 @@ use Rattle.state_cache.specs.declared.Entry.TheVariants.{Empty}
 use Rattle.state_cache.specs.declared.Place.{Place}
 use Rattle.state_cache.specs.declared.Place.TheVariants.{Reply, Ack}
 use Rattle.session.proofs.Fresh.{fresh_reply, fresh_ack, fresh_replies, fresh_acks, fresh_last, fresh_motor_id, fresh_feedback}
+use Rattle.session.proofs.Started.{started}
 use Rattle.session.specs.Session.{fresh}
 use Rattle.session.specs.Start.{with_limits, from_limits, from_model}
 use Rattle.session.specs.declared.Session.{Session}
@@ -29,17 +29,10 @@ module _ (motor feedback : ℕ) (s : Session) where
   IsFresh : Type 0
   IsFresh = (motor_id_accepted motor ≡ true) × (limits : PvTLimits) × (fresh motor feedback limits ≡ s)
 
-  the_same : (x : Session) → ◌≡◌ {A = Result Session Refusal} (Ok x) (Ok s) → x ≡ s
-  the_same x e = cc
-
   limits_fresh : (check : Result PvTLimits Refusal) → and_then check (with_limits motor feedback) ≡ Ok s → IsFresh
   unfolding IsFresh
   limits_fresh (Err n) e = absurd (clash (cc))
-  limits_fresh (Ok limits) e = go (motor_id_accepted motor) refl e
-    where
-      go : (b : Bool) → motor_id_accepted motor ≡ b → ◌≡◌ {A = Result Session Refusal} (cond b (Ok (fresh motor feedback limits)) (Err MotorId)) (Ok s) → IsFresh
-      go true accepted e = (accepted, limits, the_same (fresh motor feedback limits) e)
-      go false accepted e = absurd (clash (cc))
+  limits_fresh (Ok limits) e = let (accepted, is) = started motor feedback limits s e in (accepted, limits, is)
 
   name_fresh : (found : Result Maxima Refusal) → and_then found (from_limits motor feedback) ≡ Ok s → IsFresh
   unfolding from_limits

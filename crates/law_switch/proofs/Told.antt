@@ -124,7 +124,7 @@ module _ (motor : ℕ) where
   unfolding register_read_data register_write_data addressed packed_onto little_endian bytes
   read_no_write rid = ne_eqb (register_read_data motor rid / 2 ^ 32) (register_write_data motor 10 0 / 2 ^ 32) (λ e. omega (arith, e))
 
-  -- the id that shares it does so by the force-position mode's
+  -- the id that shares 0x7FF puts the force-position mode's setpoints there
   pub shared_id : (mode : ControlMode) → shares_7ff motor ≡ true → mode ≡ ForcePos → hold_id motor mode ≡ 0x7ff
   unfolding shares_7ff
   shared_id mode shares is = ap (hold_id motor) is ∙ ap (λ (k : ℕ). 0x300 + k) (eqb-true motor 0x4ff shares)

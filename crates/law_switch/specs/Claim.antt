@@ -126,6 +126,6 @@ EachSwitch P = (motor feedback : ℕ) (s₀ : Session) → Fresh motor feedback 
 pub record Claim : Type 0 where
   -- a refused call leaves the session that it got
   pub refusals : (s : Session) (c : Call) → IsRefusal (step s c).told → (step s c).session ≡ s
-  -- of the motor ids that are accepted only the one that shares 0x7FF puts a mode's setpoints there, those of the force-position mode
+  -- an accepted motor id puts a mode's setpoints on 0x7FF exactly if it is the one that shares it and the mode is force-position
   pub shares : (motor : ℕ) → motor_id_accepted motor ≡ true → (mode : ControlMode) → (hold_id motor mode ≡ request_id) ↔ ((shares_7ff motor ≡ true) × (mode ≡ ForcePos))
   pub switches : EachSwitch OfSwitch

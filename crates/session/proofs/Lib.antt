@@ -2,3 +2,4 @@ pub mod BuiltIn
 pub mod Fresh
 pub mod Patching
 pub mod Slots
+pub mod Started
