@@ -1,5 +1,5 @@
 -- Each number occurs, and where a call meets two rows the order decides. `proofs/Cases.antt` has the proof.
-use Rattle.std.specs.Prelude.{ℕ, ◌+◌, ◌^◌, ◌≡◌, false, List, [], ◌∷◌, ◌++◌, Ok, Err}
+use Rattle.std.specs.Prelude.{ℕ, ◌+◌, ◌^◌, ◌≡◌, List, [], ◌∷◌, ◌++◌, Err}
 use Rattle.std.specs.Float.{nan}
 use Rattle.motor_core.specs.declared.bus.CanFrame.{CanFrame}
 use Rattle.motor_core.specs.declared.model.Maxima.{Maxima}
@@ -9,15 +9,16 @@ use Rattle.time.specs.declared.Duration.{Duration}
 use Rattle.model_query.specs.Query.{answer}
 use Rattle.protocol_request.specs.Request.{register_read_cmd}
 use Rattle.state_cache.specs.Cache.{cached_entry}
-use Rattle.run_want.specs.declared.Answer.TheVariants.{Reading, Send, Slept}
+use Rattle.run_want.specs.declared.Answer.TheVariants.{Send}
 use Rattle.run_want.specs.declared.SendError.TheVariants.{Failed}
 use Rattle.session.specs.Session.{fresh}
 use Rattle.session.specs.Start.{from_limits, from_model}
 use Rattle.session.specs.declared.Session.{Session}
-use Rattle.session_begin.specs.declared.Start.TheVariants.{GetRegisterU32, GetRegisterF32, WriteRegisterU32, RequestFreshState, StoreParameters, EnsureControlMode}
+use Rattle.session_begin.specs.declared.Start.TheVariants.{GetRegisterU32, GetRegisterF32, WriteRegisterU32, RequestFreshState, StoreParameters}
 use Rattle.session_call.specs.Step.{step}
 use Rattle.session_call.specs.declared.Call.{Call}
 use Rattle.law_calls.specs.Calls.{session_after}
+use Rattle.law_calls.specs.Worked.{switch, reading, sent, slept, frame, from_motor, ten_is}
 use Rattle.law_answers.specs.Answers.{whole, Items, Numbered, of_start, of_command, of_entry, of_query, of_call}
 
 -- no limit is accepted of these
@@ -38,46 +39,28 @@ number_after limits cs c = (said_after limits cs c).number
 abbrev pub values_after : PvTLimits → List Call → Call → Items
 values_after limits cs c = (said_after limits cs c).values
 
-abbrev pub reading : ℕ → Call
-reading t = Call.Answer (Reading (record { 0 = t }))
-
 abbrev pub beyond : ℕ
 beyond = 2 ^ 62 + 1
 
 abbrev pub too_long : Duration
 too_long = record { 0 = 60_000_000_001 }
 
-abbrev pub switch : ℕ → Duration → Call
-switch mode timeout = Call.Start (EnsureControlMode mode timeout)
-
 abbrev pub switching : List Call
 switching = switch 1 (millis 400) ∷ []
 
-abbrev pub frame : CanFrame → ℕ → Call
-frame f t = Call.Frame f (record { 0 = t })
-
--- a read of register 10, its answers, and the reply that the register holds 1
+-- a read of register 10, and the reply that it holds 1
 abbrev pub read_ten : Call
 read_ten = Call.Start (GetRegisterU32 10 (millis 100))
 
-abbrev pub sent : Call
-sent = Call.Answer (Send (Ok tt))
-
-abbrev pub slept : Call
-slept = Call.Answer Slept
-
-abbrev pub register_frame : List ℕ → CanFrame
-register_frame bytes = record { arbitration_id = 0x11; «data» = bytes; dlc = 8; is_extended = false }
-
 abbrev pub ten_is_one : CanFrame
-ten_is_one = register_frame (0x11 ∷ 0x0F ∷ 0x33 ∷ 0x0A ∷ 0x01 ∷ 0x00 ∷ 0x00 ∷ 0x00 ∷ [])
+ten_is_one = ten_is 0x11 0x0F 1
 
 -- the same register's ack, and a float register's reply that it holds a NaN
 abbrev pub ack_ten : ℕ → CanFrame
-ack_ten value = register_frame (0x01 ∷ 0x00 ∷ 0x55 ∷ 0x0A ∷ value ∷ 0x00 ∷ 0x00 ∷ 0x00 ∷ [])
+ack_ten value = from_motor (0x01 ∷ 0x00 ∷ 0x55 ∷ 0x0A ∷ value ∷ 0x00 ∷ 0x00 ∷ 0x00 ∷ [])
 
 abbrev pub zero_is_nan : CanFrame
-zero_is_nan = register_frame (0x01 ∷ 0x00 ∷ 0x33 ∷ 0x00 ∷ 0x01 ∷ 0x00 ∷ 0xC0 ∷ 0x7F ∷ [])
+zero_is_nan = from_motor (0x01 ∷ 0x00 ∷ 0x33 ∷ 0x00 ∷ 0x01 ∷ 0x00 ∷ 0xC0 ∷ 0x7F ∷ [])
 
 -- a write of 1 to register 10, and what answers a try of it
 abbrev pub write_ten : Call
@@ -104,7 +87,7 @@ pub record Occurring (l : PvTLimits) (f : CanFrame) : Type 0 where
   pub timeout : number_after l [] (switch 1 too_long) ≡ 7
   pub run_open : number_after l switching (Call.Start StoreParameters) ≡ 8
   pub no_run : number_after l [] (reading 1) ≡ 9
-  pub other_kind : number_after l switching (Call.Answer Slept) ≡ 9
+  pub other_kind : number_after l switching slept ≡ 9
   pub mode : number_after l [] (switch 9 (millis 400)) ≡ 10
   pub query : (of_query (answer (record { p = nan; v = nan; t = nan }) [])).number ≡ 11
   pub model : (of_start (from_model 1 0x11 [] [])).number ≡ 12

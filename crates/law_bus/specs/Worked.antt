@@ -1,23 +1,21 @@
 -- The highest motor id at work, and the one above it: a switch of motor 0x4FF to the velocity mode, whose motor says another mode, so that it clears with the setpoint of each. Definitions only.
-use Rattle.std.specs.Prelude.{ℕ, ◌≡◌, false, List, [], ◌∷◌, Result, Ok, Err}
-use Rattle.motor_core.specs.Error.{number}
-use Rattle.motor_core.specs.declared.error.Refusal.{Refusal}
+use Rattle.std.specs.Prelude.{ℕ, ◌≡◌, List, [], ◌∷◌, Ok, Err}
+use Rattle.motor_core.specs.declared.error.Refusal.TheVariants.{MotorId}
 use Rattle.float.specs.Arithmetic.{float}
 use Rattle.motor_core.specs.Model.{from_maxima}
 use Rattle.motor_core.specs.declared.model.Maxima.{Maxima}
 use Rattle.time.specs.Time.{millis}
 use Rattle.protocol_setpoint.specs.Setpoint.{force_pos_cmd}
 use Rattle.protocol_request.specs.Request.{disable_cmd}
-use Rattle.run_want.specs.declared.Answer.TheVariants.{Reading, Send}
 use Rattle.run_want.specs.declared.Want.TheVariants as Wanted
 use Rattle.session.specs.Session.{fresh}
 use Rattle.session.specs.Start.{from_limits}
 use Rattle.session.specs.declared.Session.{Session}
-use Rattle.session_begin.specs.declared.Start.TheVariants.{EnsureControlMode}
 use Rattle.session_call.specs.declared.Call.{Call}
 use Rattle.session_call.specs.declared.Returned.{Returned}
 use Rattle.session_step.specs.declared.Told.TheVariants as Told
 use Rattle.law_calls.specs.Calls.{Fresh, Event, events}
+use Rattle.law_calls.specs.Worked.{switch, reading, sent, frame, ten_is}
 
 abbrev pub maxima : Maxima
 maxima = record { p_max = float 12; v_max = float 30; t_max = float 10 }
@@ -25,23 +23,8 @@ maxima = record { p_max = float 12; v_max = float 30; t_max = float 10 }
 abbrev pub session : Session
 session = fresh 0x4ff 0x11 (from_maxima maxima)
 
-abbrev pub clock : Call
-clock = Call.Answer (Reading (record { 0 = 5 }))
-
-abbrev pub sent : Call
-sent = Call.Answer (Send (Ok tt))
-
--- the motor's reply that register 10 holds 1
-abbrev pub says_mit : Call
-says_mit = Call.Frame (record {
-  arbitration_id = 0x11;
-  «data» = 0xFF ∷ 0x04 ∷ 0x33 ∷ 0x0A ∷ 0x01 ∷ 0x00 ∷ 0x00 ∷ 0x00 ∷ [];
-  dlc = 8;
-  is_extended = false;
-}) (record { 0 = 5 })
-
 abbrev pub calls : List Call
-calls = Call.Start (EnsureControlMode 3 (millis 400)) ∷ clock ∷ clock ∷ clock ∷ says_mit ∷ sent ∷ sent ∷ sent ∷ sent ∷ sent ∷ []
+calls = switch 3 (millis 400) ∷ reading 5 ∷ reading 5 ∷ reading 5 ∷ frame (ten_is 0xFF 0x04 1) 5 ∷ sent ∷ sent ∷ sent ∷ sent ∷ sent ∷ []
 
 -- the ids that calls want frames sent to
 abbrev pub id_before : Returned → List ℕ → List ℕ
@@ -57,16 +40,11 @@ unfoldable pub ids_of : List Event → List ℕ
 ids_of [] = []
 ids_of (v ∷ vs) = id_before v.returned (ids_of vs)
 
--- refused with 2
-abbrev pub IsRefused : {A : Type 0} → Result A Refusal → Type 0
-IsRefused (Ok x) = ⊥
-IsRefused (Err refusal) = number refusal ≡ 2
-
 pub record Worked : Type 0 where
   pub starts : Fresh 0x4ff 0x11 session
   -- the read of register 10, four setpoints that clear, the write of register 10
   pub ids : ids_of (events session calls) ≡ 0x7ff ∷ 0x6ff ∷ 0x5ff ∷ 0x7ff ∷ 0x4ff ∷ 0x7ff ∷ []
   -- the id above it, and one that a technician typed
-  pub start_refused : IsRefused (from_limits 0x500 0x11 maxima)
-  pub disable_refused : IsRefused (disable_cmd 0x500)
-  pub force_pos_refused : IsRefused (force_pos_cmd 0x5a0 0 (float 0) (float 0))
+  pub start_refused : from_limits 0x500 0x11 maxima ≡ Err MotorId
+  pub disable_refused : disable_cmd 0x500 ≡ Err MotorId
+  pub force_pos_refused : force_pos_cmd 0x5a0 0 (float 0) (float 0) ≡ Err MotorId

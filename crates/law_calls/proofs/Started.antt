@@ -4,11 +4,12 @@ use Prim.Native.Nat.{ℕ, ◌≤◌}
 use mathlib.Core.Path.{◌≡◌, refl, ap, subst}
 use mathlib.Core.Bool.{true}
 use native.Mathlib.Omega.{arith}
-use Rattle.motor_core.proofs.Turned.{clash}
+use Rattle.motor_core.proofs.Turned.{clash, let_through}
 use Rattle.motor_core.specs.AndThen.{and_then}
 use Rattle.motor_core.specs.Bus.{motor_id_accepted}
 use Rattle.motor_core.specs.Model.{limits_of}
 use Rattle.motor_core.specs.declared.error.Refusal.{Refusal}
+use Rattle.motor_core.specs.declared.error.Refusal.TheVariants.{MotorId}
 use Rattle.motor_core.specs.declared.model.Maxima.{Maxima}
 use Rattle.motor_core.specs.declared.model.PvTLimits.{PvTLimits}
 use Rattle.model_list.specs.Models.{limits_by_name}
@@ -16,7 +17,6 @@ use Rattle.state_cache.specs.declared.Entry.TheVariants.{Empty}
 use Rattle.state_cache.specs.declared.Place.{Place}
 use Rattle.state_cache.specs.declared.Place.TheVariants.{Reply, Ack}
 use Rattle.session.proofs.Fresh.{fresh_reply, fresh_ack, fresh_replies, fresh_acks, fresh_last, fresh_motor_id, fresh_feedback}
-use Rattle.session.proofs.Started.{started}
 use Rattle.session.specs.Session.{fresh}
 use Rattle.session.specs.Start.{with_limits, from_limits, from_model}
 use Rattle.session.specs.declared.Session.{Session}
@@ -32,7 +32,7 @@ module _ (motor feedback : ℕ) (s : Session) where
   limits_fresh : (check : Result PvTLimits Refusal) → and_then check (with_limits motor feedback) ≡ Ok s → IsFresh
   unfolding IsFresh
   limits_fresh (Err n) e = absurd (clash (cc))
-  limits_fresh (Ok limits) e = let (accepted, is) = started motor feedback limits s e in (accepted, limits, is)
+  limits_fresh (Ok limits) e = let (accepted, is) = let_through (fresh motor feedback limits) s MotorId (motor_id_accepted motor) e in (accepted, limits, is)
 
   name_fresh : (found : Result Maxima Refusal) → and_then found (from_limits motor feedback) ≡ Ok s → IsFresh
   unfolding from_limits

@@ -3,3 +3,4 @@ pub mod Laws
 pub mod Places
 pub mod Ran
 pub mod Turns
+pub mod Worked

@@ -1,20 +1,19 @@
 -- A mode switch worked out: motor 1 is asked for its mode and says 3, by a frame that comes before its send is answered. A reply of the same mode came before the switch, too early; with that alone it goes on. Definitions only.
-use Rattle.std.specs.Prelude.{ℕ, ◌≡◌, false, List, [], ◌∷◌, length, None, Some, Ok}
+use Rattle.std.specs.Prelude.{◌≡◌, false, List, [], ◌∷◌, length, None, Some, Ok}
 use Rattle.std.specs.Float.{fin}
 use Rattle.std.specs.Prelude.{pos}
 use Rattle.motor_core.specs.Model.{from_maxima}
+use Rattle.motor_core.specs.declared.bus.CanFrame.{CanFrame}
 use Rattle.motor_core.specs.declared.model.Maxima.{Maxima}
 use Rattle.time.specs.Time.{millis}
 use Rattle.registers.specs.declared.RegisterValue.TheVariants.{UInt32}
 use Rattle.state_cache.specs.declared.Entry.{Entry}
 use Rattle.state_cache.specs.declared.Entry.TheVariants.{Empty, Held}
 use Rattle.state_cache.specs.declared.Place.TheVariants.{Reply}
-use Rattle.run_want.specs.declared.Answer.TheVariants.{Reading, Send}
 use Rattle.run_want.specs.declared.Want.TheVariants as Wanted
 use Rattle.run_machine.specs.declared.Outcome.TheVariants.{Done}
 use Rattle.session.specs.Session.{fresh}
 use Rattle.session.specs.declared.Session.{Session}
-use Rattle.session_begin.specs.declared.Start.TheVariants.{EnsureControlMode}
 use Rattle.session_call.specs.Step.{step}
 use Rattle.session_call.specs.declared.Call.{Call}
 use Rattle.session_call.specs.declared.Returned.TheVariants as Returned
@@ -22,6 +21,7 @@ use Rattle.session_step.specs.declared.Told.TheVariants as Told
 use Rattle.law_calls.specs.Calls.{Fresh, event, events, session_after}
 use Rattle.law_calls.specs.Places.{nothing, seen_after}
 use Rattle.law_calls.specs.Turns.{Gave, Turn, turns_after, result, gaves, count}
+use Rattle.law_calls.specs.Worked.{switch, reading, sent, frame, ten_is}
 use Rattle.law_switch.specs.Claim.{mode_read, mode_write}
 
 abbrev pub maxima : Maxima
@@ -30,35 +30,23 @@ maxima = record { p_max = fin false 1 (pos 0); v_max = fin false 1 (pos 0); t_ma
 abbrev pub session : Session
 session = fresh 1 0x11 (from_maxima maxima)
 
--- the motor's reply that register 10 holds a number, with its reading
-abbrev pub says_mode : ℕ → ℕ → Call
-says_mode mode reading = Call.Frame (record {
-  arbitration_id = 0x11;
-  «data» = 0x01 ∷ 0x00 ∷ 0x33 ∷ 0x0A ∷ mode ∷ 0x00 ∷ 0x00 ∷ 0x00 ∷ [];
-  dlc = 8;
-  is_extended = false;
-}) (record { 0 = reading })
-
-abbrev pub clock : ℕ → Call
-clock reading = Call.Answer (Reading (record { 0 = reading }))
-
-abbrev pub sent : Call
-sent = Call.Answer (Send (Ok tt))
+abbrev pub says_3 : CanFrame
+says_3 = ten_is 0x01 0x00 3
 
 abbrev pub before : List Call
-before = says_mode 3 4 ∷ []
+before = frame says_3 4 ∷ []
 
 abbrev pub begins : Call
-begins = Call.Start (EnsureControlMode 3 (millis 400))
+begins = switch 3 (millis 400)
 
 abbrev pub asked : List Call
-asked = clock 5 ∷ clock 5 ∷ clock 5 ∷ []
+asked = reading 5 ∷ reading 5 ∷ reading 5 ∷ []
 
 abbrev pub with_reply : List Call
-with_reply = clock 5 ∷ clock 5 ∷ clock 5 ∷ says_mode 3 6 ∷ sent ∷ []
+with_reply = reading 5 ∷ reading 5 ∷ reading 5 ∷ frame says_3 6 ∷ sent ∷ []
 
 abbrev pub without_reply : List Call
-without_reply = clock 5 ∷ clock 5 ∷ clock 5 ∷ sent ∷ []
+without_reply = reading 5 ∷ reading 5 ∷ reading 5 ∷ sent ∷ []
 
 -- its turns, with these calls after its start
 abbrev pub begun : Session

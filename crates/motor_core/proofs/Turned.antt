@@ -1,5 +1,6 @@
 -- A test that turns back: `if !t { return a }` with b after it is `cond t b a`, and `if t { return a }` is `cond t a b`. Constructors that differ. Assumes nothing.
-use mathlib.Core.Path.{◌≡◌, sym, ap, ◌∙◌}
+use Rattle.std.specs.Prelude.{Result, Ok, Err}
+use mathlib.Core.Path.{◌≡◌, refl, sym, ap, ◌∙◌}
 use mathlib.Core.Bool.{Bool, true, false, cond}
 use Prim.Native.Nat.{ℕ}
 use native.Mathlib.Omega.{arith}
@@ -20,3 +21,12 @@ module _ {A : Type 0} (t test : Bool) (a b : A) (e : t ≡ test) where
 
   pub unmet : t ≡ false → b ≡ cond test a b
   unmet h = ap (λ (s : Bool). cond s a b) (sym h ∙ e)
+
+-- what a test lets through is what was there
+module _ {A N : Type 0} (x y : A) (n : N) where
+  same_ok : ◌≡◌ {A = Result A N} (Ok x) (Ok y) → x ≡ y
+  same_ok e = cc
+
+  pub let_through : (test : Bool) → ◌≡◌ {A = Result A N} (cond test (Ok x) (Err n)) (Ok y) → (test ≡ true) × (x ≡ y)
+  let_through true e = (refl, same_ok e)
+  let_through false e = absurd (clash (cc))

@@ -2,4 +2,3 @@ pub mod BuiltIn
 pub mod Fresh
 pub mod Patching
 pub mod Slots
-pub mod Started
