@@ -13,6 +13,7 @@ add() { # SEED LINES KINDS
 }
 add 1 2500 frames-out
 add 2 1200 frames-in
+add 9 700 motor-side
 add 3 600 tables
 add 5 800 models
 # lines.script has calls on a session that has not started, so that what starts one comes after it.

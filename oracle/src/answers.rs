@@ -48,6 +48,13 @@ pub fn floats(out: &mut Vec<u8>, floats: &[f32]) {
     }
 }
 
+/// Eight bytes, behind a word.
+pub fn data(out: &mut Vec<u8>, word: &str, data: [u8; 8]) {
+    text(out, word);
+    out.push(b' ');
+    hexadecimal(out, &data);
+}
+
 /// `ID DATA` of a frame, behind a word.
 pub fn frame(out: &mut Vec<u8>, word: &str, id: u32, data: [u8; 8]) {
     numbered(out, word, id.into());

@@ -4,6 +4,7 @@ mod answers;
 mod bus;
 mod compare;
 mod lines;
+mod motor_side;
 mod oracle;
 mod parser;
 mod random;
@@ -26,7 +27,7 @@ use std::time::Duration;
 const USAGE: &str = "usage: oracle run < SCRIPT > ANSWERS
        oracle random --seed S --lines N --kinds LIST [--without LIST] --script FILE --answers FILE
        oracle compare --drive CMD --seed S --lines N|--seconds N|--minutes N --kinds LIST [--without LIST] [--chunk N] [--keep FILE]
-kinds: all, stateless, frames-out, frames-in, models, tables, sessions, runs, mode, bad";
+kinds: all, stateless, frames-out, frames-in, motor-side, models, tables, sessions, runs, mode, bad";
 
 fn main() -> ExitCode {
     let arguments: Vec<String> = std::env::args().skip(1).collect();

@@ -1,6 +1,7 @@
 //! Answers the line script, line by line.
 
 use crate::answers;
+use crate::motor_side;
 use crate::parser::{self, Call, Line};
 use crate::refusals::Refused;
 use crate::session::Session;
@@ -47,6 +48,9 @@ impl Oracle {
                 None => answers::text(out, "no session"),
             },
             Call::Command { motor, command } => stateless::command(motor, command, out)?,
+            Call::MakeFeedback(feedback) => motor_side::put(out, feedback.made()?),
+            Call::MakeReply(register) => motor_side::put(out, register.reply()?),
+            Call::MakeAck(register) => motor_side::put(out, register.ack()?),
             Call::Decode { limits, data } => stateless::decode(limits, data, out)?,
             Call::Sort { data } => stateless::sort(data, out),
             Call::StatusName(status) => stateless::status(status, out),

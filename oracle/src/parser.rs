@@ -19,6 +19,7 @@
 //!   need not be text.
 //! - Bad lines are found before anything else is asked, so also before `no session` and refusals.
 
+use crate::motor_side::{Feedback, Register};
 use script::Answer;
 
 pub const LONGEST: usize = 4095;
@@ -111,6 +112,9 @@ pub enum Call<'a> {
         motor: u16,
         command: Command,
     },
+    MakeFeedback(Feedback),
+    MakeReply(Register),
+    MakeAck(Register),
     Decode {
         limits: [f32; 3],
         data: [u8; 8],
@@ -221,6 +225,17 @@ fn call<'a>(words: &mut Words<'a>) -> Option<Call<'a>> {
             rotor: words.u8()?,
         }),
         b"session" => Call::Session(SessionCall::Session),
+        b"make-feedback" => Call::MakeFeedback(Feedback {
+            motor: words.u8()?,
+            status: words.u8()?,
+            position: words.u32()?,
+            velocity: words.u32()?,
+            torque: words.u32()?,
+            mos: words.u8()?,
+            rotor: words.u8()?,
+        }),
+        b"make-reply" => Call::MakeReply(words.register()?),
+        b"make-ack" => Call::MakeAck(words.register()?),
         b"decode" => Call::Decode {
             limits: words.three_floats()?,
             data: words.data()?,
@@ -344,6 +359,14 @@ impl<'a> Words<'a> {
         self.u64().map(u64::to_be_bytes)
     }
 
+    fn register(&mut self) -> Option<Register> {
+        Some(Register {
+            id: self.u16()?,
+            rid: self.u8()?,
+            bits: self.u32()?,
+        })
+    }
+
     fn frame(&mut self) -> Option<Frame> {
         Some(Frame {
             id: self.u32()?,
@@ -400,6 +423,14 @@ mod tests {
         assert!(!is_bad(b"vel 65535 4294967295"));
         assert!(is_bad(b"vel 65536 0"));
         assert!(is_bad(b"vel 0 4294967296"));
+        assert!(!is_bad(
+            b"make-feedback 255 255 4294967295 4294967295 4294967295 255 255"
+        ));
+        assert!(is_bad(b"make-feedback 256 0 0 0 0 0 0"));
+        assert!(is_bad(b"make-feedback 0 0 0 0 0 0 256"));
+        assert!(!is_bad(b"make-ack 65535 255 4294967295"));
+        assert!(is_bad(b"make-reply 65536 0 0"));
+        assert!(is_bad(b"make-reply 0 256 0"));
         assert!(!is_bad(b"accepts 0xFFFFFFFF 0xFFFFFFFFFFFFFFFF 255 1"));
         assert!(is_bad(b"accepts 0x100000000 0 8 0"));
         assert!(is_bad(b"accepts 0 0 8 2"));
@@ -474,6 +505,7 @@ mod tests {
             "accepts 2 3 8 0",
             "session",
             "vel 1 0",
+            "make-reply 1 10 0",
             "sort 0",
             "register 10",
             "suggest 1 2 3 4",

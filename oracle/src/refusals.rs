@@ -1,4 +1,4 @@
-//! The refusals of the table 'Turned back', each test with its number.
+//! The refusals of the table 'Turned back', and those that document 02 adds, each test with its number.
 
 use motor_vendor_damiao::registers::{
     register_info, RegisterAccess, RegisterDataType, RegisterInfo,
@@ -12,7 +12,7 @@ pub const RUN_OPEN: Refused = Refused(8);
 pub const NOT_WANTED: Refused = Refused(9);
 pub const MODEL_UNKNOWN: Refused = Refused(12);
 
-const LAST_MOTOR_ID: u16 = 0x4FF;
+pub const LAST_MOTOR_ID: u16 = 0x4FF;
 const LAST_READING: u64 = 1 << 62;
 const LONGEST_TIMEOUT: u64 = 60_000_000_000;
 
@@ -54,6 +54,16 @@ pub fn timeout(timeout: u64) -> Result<(), Refused> {
 
 pub fn mode(mode: u32) -> Result<(), Refused> {
     refuse_if(!(1..=4).contains(&mode), 10)
+}
+
+/// 13, of a feedback; its bytes are read otherwise where they are a register's frame.
+pub fn read_as_feedback(is_feedback: bool) -> Result<(), Refused> {
+    refuse_if(!is_feedback, 13)
+}
+
+/// 14, of a field and the most that it may be.
+pub fn field(field: impl Into<u32>, most: u32) -> Result<(), Refused> {
+    refuse_if(field.into() > most, 14)
 }
 
 pub fn query(query: [f32; 3]) -> Result<(), Refused> {

@@ -90,6 +90,132 @@ fn command_frames() {
 }
 
 #[test]
+fn what_a_motor_sends() {
+    check(
+        "make-feedback 1 1 0 0 0 30 40 => data 1100000000001E28
+        make-feedback 2 12 0x3456 0x789 0xABD 0xEF 0x10 => data C23456789ABDEF10
+        make-feedback 15 15 65535 4095 4095 255 255 => data FFFFFFFFFFFFFFFF
+        make-feedback 16 0 0 0 0 0 0 => refused 14
+        make-feedback 0 16 0x0F33 0x0A0 0 0 0 => refused 14
+        make-feedback 0 0 65536 0 0 0 0 => refused 14
+        make-feedback 0 0 0 4096 0 0 0 => refused 14
+        make-feedback 0 0 0 0 4096 0 0 => refused 14
+        make-feedback 0 0 0 0 0x80000000 0 0 => refused 14
+        make-feedback 1 1 0x0F33 0x0A0 0 0 0 => refused 13
+        make-feedback 1 1 0x0F55 0x0AF 4095 255 255 => refused 13
+        make-feedback 1 1 0x0F33 0x250 0 0 0 => data 110F332500000000
+        make-feedback 1 1 0x1033 0x0A0 0 0 0 => data 1110330A00000000
+        make-feedback 1 1 0x0F34 0x0A0 0 0 0 => data 110F340A00000000
+        make-reply 1 10 0x04030201 => data 0100330A01020304
+        make-ack 1 10 0x04030201 => data 0100550A01020304
+        make-ack 0x4FF 13 0 => data FF04550D00000000
+        make-reply 0 0 0x7FC12345 => data 000033004523C17F
+        make-reply 0x500 37 0 => refused 14
+        make-reply 0x4FF 37 0 => refused 4
+        make-ack 0xFFFF 82 0 => refused 14
+        make-ack 0 82 0 => refused 4",
+    );
+}
+
+#[test]
+fn written_feedback_is_what_the_original_decodes() {
+    use crate::motor_side::Feedback;
+    use motor_vendor_damiao::motor::adapter;
+    use motor_vendor_damiao::protocol::uint_to_float;
+    let maxima = [12.5, 45.0, 9.5];
+    let (mut made, mut turned_back) = (0, 0);
+    let mut decoded = |feedback: Feedback| {
+        let Ok(data) = feedback.made() else {
+            turned_back += 1;
+            return;
+        };
+        made += 1;
+        let read = adapter::decode(maxima, data);
+        let [p, v, t] = maxima;
+        let expected = (
+            (feedback.motor, feedback.status),
+            uint_to_float(feedback.position, -p, p, 16),
+            uint_to_float(feedback.velocity, -v, v, 12),
+            uint_to_float(feedback.torque, -t, t, 12),
+            (f32::from(feedback.mos), f32::from(feedback.rotor)),
+        );
+        let temperatures = (read.t_mos, read.t_rotor);
+        assert_eq!(
+            (
+                (read.can_id, read.status_code),
+                read.pos,
+                read.vel,
+                read.torq,
+                temperatures
+            ),
+            expected
+        );
+    };
+    let feedback = |nibbles: u8, position, velocity, torque| Feedback {
+        motor: nibbles & 0xF,
+        status: nibbles >> 4,
+        position,
+        velocity,
+        torque,
+        mos: nibbles,
+        rotor: !nibbles,
+    };
+    for position in 0..=65_535 {
+        decoded(feedback(
+            position as u8,
+            position,
+            position & 0xFFF,
+            position >> 4,
+        ));
+    }
+    // every velocity behind a position that looks like a register's frame
+    for velocity in 0..4_096 {
+        decoded(feedback(velocity as u8, 0x0F33, velocity, 4_095 - velocity));
+    }
+    // 53 registers with 16 velocities each; and seven of the positions, as 0x0333, whose velocity is 0x333
+    assert_eq!((made, turned_back), (65_536 + 4_096 - 855, 855));
+}
+
+#[test]
+fn written_replies_and_acks_are_what_the_original_takes() {
+    use motor_vendor_damiao::registers::{register_info, RegisterDataType};
+    let mut oracle = Oracle::default();
+    let mut told = |line: String| {
+        let mut answer = Vec::new();
+        oracle.line(line.as_bytes(), &mut answer);
+        String::from_utf8(answer)
+            .expect("text")
+            .trim_end()
+            .to_string()
+    };
+    for rid in 0..=u8::MAX {
+        for bits in [0, 1, 0x0403_0201, 0x7FC1_2345, 0xFF80_0001, u32::MAX] {
+            for (word, id) in [("reply", 0), ("reply", 0x4FF), ("ack", 1), ("ack", 0x4FF)] {
+                assert_eq!(told("start-model 4310 1 17".into()), "started");
+                let made = told(format!("make-{word} {id} {rid} {bits}"));
+                let Some(info) = register_info(rid) else {
+                    assert_eq!(made, "refused 4");
+                    continue;
+                };
+                let data = made.strip_prefix("data ").expect("bytes");
+                assert_eq!(told(format!("frame 7 17 0x{data} 8 0")), "taken");
+                let value = match info.data_type {
+                    RegisterDataType::UInt32 => format!("u32 {bits}"),
+                    RegisterDataType::Float => format!("f32 {bits:08X}"),
+                };
+                let held = if word == "reply" {
+                    format!("replies {rid} {value} 7 acks")
+                } else {
+                    format!("replies acks {rid} {value} 7")
+                };
+                let session = "session last 7 sequence 0 run 0 latest none";
+                assert_eq!(told("session".into()), format!("{session} {held}"));
+            }
+        }
+    }
+}
+
+#[test]
 fn refusals_in_their_order() {
     check(
         "session => no session
@@ -413,6 +539,7 @@ fn random_scripts_are_answered_alike_when_run() {
     let kinds = [
         "frames-out",
         "frames-in",
+        "motor-side",
         "models",
         "tables",
         "stateless",

@@ -1,6 +1,6 @@
 // The answer to a call. A call that is refused puts nothing on the page.
 use crate::page::Page;
-use crate::{commands, listing, reports, sessions};
+use crate::{commands, listing, motor, reports, sessions};
 use motor_core::error::Refusal;
 use script::{Call, CallName};
 use session::Session;
@@ -24,6 +24,9 @@ pub(crate) fn answer(
         | CallName::Disable
         | CallName::Zero
         | CallName::Clear => commands::answer(page, call),
+        CallName::MakeFeedback | CallName::MakeReply | CallName::MakeAck => {
+            motor::answer(page, call)
+        }
         CallName::Match | CallName::Suggest => listing::answer(page, call),
         CallName::Decode | CallName::Sort | CallName::StatusName | CallName::Register => {
             reports::answer(page, call)

@@ -4,7 +4,7 @@ use script::CallName;
 
 // A line for each call, in the order of their names, so that a name finds it. In a `match` on the name the
 // help would need a list of the names beside it.
-static CALLS: [&[u8]; 36] = [
+static CALLS: [&[u8]; 39] = [
     b"start-limits MOTOR FEEDBACK P V T",
     b"start-model NAME MOTOR FEEDBACK",
     b"get-u32 RID TIMEOUT",
@@ -35,6 +35,9 @@ static CALLS: [&[u8]; 36] = [
     b"disable MOTOR",
     b"zero MOTOR",
     b"clear MOTOR",
+    b"make-feedback MOTOR STATUS POS VEL TORQ MOS ROTOR",
+    b"make-reply ID RID BITS",
+    b"make-ack ID RID BITS",
     b"decode P V T DATA",
     b"sort DATA",
     b"status-name N",
@@ -50,7 +53,8 @@ const LENT: &[u8] = b"\
 const FIELDS: &[u8] = b"\
     MOTOR and FEEDBACK have 16 bits; RID, DLC, STATUS, MOS, ROTOR and N 8;\n\
     TIMEOUT, READING, DATA and COUNT 64; EXT is 0 or 1; a NAME is any word; the\n\
-    others have 32, and a float is the number of its bits. Times are in ns.\n";
+    others have 32, and a float is the number of its bits. Times are in ns.\n\
+    But MOTOR of make-feedback has 8 bits, and ID of make-reply and make-ack 16.\n";
 
 const REFUSALS: &[u8] = b"\
     refused 1: a limit that is not from 1/1024 to 65536\n\
@@ -64,7 +68,9 @@ const REFUSALS: &[u8] = b"\
     refused 9: an answer that is not wanted\n\
     refused 10: a mode that is not 1 to 4\n\
     refused 11: a query that is not from -65536 to 65536\n\
-    refused 12: a name that no model has\n";
+    refused 12: a name that no model has\n\
+    refused 13: a feedback that would be read as a register's frame\n\
+    refused 14: a field that is too wide\n";
 
 pub(crate) fn put_help(page: &mut Page) {
     for call in &CALLS {

@@ -10,6 +10,7 @@ mod help;
 mod input;
 mod lines;
 mod listing;
+mod motor;
 mod notes;
 mod page;
 mod print;

@@ -9,7 +9,7 @@ use Rattle.std.specs.Prelude.{drop, eqb, get_or, Some, None, Ok, Err}
 use Rattle.motor_core.specs.Error.{number}
 use Rattle.motor_core.proofs.Turned.{clash}
 use Rattle.motor_core.specs.declared.error.Refusal.{Refusal}
-use Rattle.motor_core.specs.declared.error.Refusal.TheVariants.{Limit, MotorId, Reading, Register, ReadOnly, ValueType, Timeout, RunOpen, NotWanted, Mode, Query, Model}
+use Rattle.motor_core.specs.declared.error.Refusal.TheVariants.{Limit, MotorId, Reading, Register, ReadOnly, ValueType, Timeout, RunOpen, NotWanted, Mode, Query, Model, RegisterFrame, FieldWidth}
 use Rattle.motor_core.specs.declared.model.Maxima.{Maxima}
 use Rattle.registers.specs.declared.RegisterValue.{RegisterValue}
 use Rattle.registers.specs.declared.RegisterValue.TheVariants as Value
@@ -31,7 +31,7 @@ use Rattle.session.specs.declared.Session.{Session}
 use Rattle.session_call.specs.Step.{step}
 use Rattle.session_call.specs.declared.Call.{Call}
 use Rattle.session_call.specs.declared.Returned.{Returned}
-use Rattle.law_answers.specs.Answers.{Item, whole, real, Items, Numbered, numbered, value_items, entry_items, name_order, feedback_items, state_items, command_items, limit_items, want_items, failure_items, result_items, told_items, of_run, of_frame, of_patch, of_call, kind, kind_of, with_kind}
+use Rattle.law_answers.specs.Answers.{Item, whole, real, Items, Numbered, numbered, value_items, entry_items, name_order, feedback_items, state_items, command_items, data_items, limit_items, want_items, failure_items, result_items, told_items, of_run, of_frame, of_patch, of_call, kind, kind_of, with_kind}
 use Rattle.law_answers.specs.Apart.{Distinct, Apart}
 
 -- what can be read back is distinct
@@ -41,7 +41,7 @@ read_back f back same a b e = sym (same a) ∙ ap back e ∙ same b
 -- ---- numbers
 
 refusal : ℕ → Refusal
-refusal n = get_or (Limit ∷ Limit ∷ MotorId ∷ Reading ∷ Register ∷ ReadOnly ∷ ValueType ∷ Timeout ∷ RunOpen ∷ NotWanted ∷ Mode ∷ Query ∷ Model ∷ []) n Limit
+refusal n = get_or (Limit ∷ Limit ∷ MotorId ∷ Reading ∷ Register ∷ ReadOnly ∷ ValueType ∷ Timeout ∷ RunOpen ∷ NotWanted ∷ Mode ∷ Query ∷ Model ∷ RegisterFrame ∷ FieldWidth ∷ []) n Limit
 
 refusal_back : (r : Refusal) → refusal (number r) ≡ r
 unfolding refusal
@@ -57,6 +57,8 @@ refusal_back NotWanted = refl
 refusal_back Mode = refl
 refusal_back Query = refl
 refusal_back Model = refl
+refusal_back RegisterFrame = refl
+refusal_back FieldWidth = refl
 
 -- 0 is read back as a refusal whose number is 1
 no_zero : (r : Refusal) → number r ≡ 0 → ⊥
@@ -291,6 +293,7 @@ apart = record {
   frames = frames;
   patches = read_back of_patch found found_back;
   single_commands = refusable [] command_items (read_back command_items command command_back);
+  sent_by_a_motor = refusable [] data_items (read_back data_items (λ items. at items 0) (λ n. refl));
   decodings = refusable [] feedback_items (read_back feedback_items feedback feedback_back);
   cached = refusable [] entry_items (read_back entry_items entry entry_back);
   models = refusable [] limit_items (read_back limit_items maxima maxima_back);

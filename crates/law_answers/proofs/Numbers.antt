@@ -1,9 +1,10 @@
 -- Each call returns the number of the first row that it meets, by cases on the tests. Assumes nothing.
-use Prim.Native.Nat.{ℕ}
+use Prim.Native.Nat.{ℕ, ◌/◌, ◌%◌, ◌≤◌, ◌<◌}
 use mathlib.Core.Path.{◌≡◌, refl, sym, ap, ◌∙◌}
-use mathlib.Core.Bool.{Bool, true, false, not, ◌||◌, ◌&&◌, cond}
+use mathlib.Core.Bool.{Bool, true, false, not, ◌||◌, ◌&&◌, cond, and-true}
 use mathlib.Core.List.{List, [], ◌∷◌}
-use Rattle.std.specs.Prelude.{eqb, ◌≢◌, Option, Some, None, Result, Ok, Err}
+use borrow.Author.Tests.{leb-true, leb-false, le-ltb, lt-ltb}
+use Rattle.std.specs.Prelude.{eqb, leb, ltb, ◌≢◌, Option, Some, None, Result, Ok, Err}
 use Rattle.std.specs.Float.{binary32}
 use Rattle.std.specs.Float.Ieee.{nan_bits, of_bits}
 use Rattle.motor_core.specs.AndThen.{and_then}
@@ -35,6 +36,15 @@ use Rattle.protocol_frame.specs.Command.{command, frame_for}
 use Rattle.protocol_setpoint.specs.Setpoint.{mit_cmd, mit_data}
 use Rattle.protocol_setpoint.specs.declared.MitSetpoint.{MitSetpoint}
 use Rattle.protocol_feedback.specs.Feedback.{feedback_of, decoded}
+use Rattle.protocol_frame.specs.Layout.{all_fit}
+use Rattle.protocol_received.specs.Received.{class}
+use Rattle.protocol_received.specs.declared.FrameClass.{FrameClass}
+use Rattle.protocol_received.specs.declared.FrameClass.TheVariants as Class
+use Rattle.protocol_motor.specs.Motor.{feedback_fields, feedback_data, feedback_class, unless_register, feedback, register_frame}
+use Rattle.protocol_motor.specs.Refused.{Narrow}
+use Rattle.protocol_motor.specs.declared.FeedbackFields.{FeedbackFields}
+use Rattle.protocol_motor.proofs.Fields.{narrow}
+use Rattle.protocol_motor.proofs.Refused.{refused as refusals}
 use Rattle.protocol_hold.specs.Mode.{control_mode}
 use Rattle.protocol_hold.specs.declared.ControlMode.{ControlMode}
 use Rattle.protocol_hold.specs.declared.ControlMode.TheVariants.{Mit, PosVel, Vel, ForcePos}
@@ -93,7 +103,7 @@ of_three false b c = refl
 of_three true false c = refl
 of_three true true c = refl
 
--- ---- limits and motor ids
+-- ---- limits, motor ids, registers
 
 by_limits : {A : Type 0} (m : Maxima) (f : PvTLimits → Result A Refusal) → refused (and_then (limits_of m) f) ≡ cond (limit_out m) 1 (refused (f (from_maxima m)))
 unfolding limits_of
@@ -118,6 +128,60 @@ by_start motor feedback m =
 by_decoding : (m : Maxima) (bytes : List ℕ) → refused (decoded m bytes) ≡ Table.decoding m
 unfolding decoded
 by_decoding m bytes = by_limits m (λ l. Ok (feedback_of l bytes))
+
+by_register : {A : Type 0} (rid : ℕ) (r : Result A Refusal) → refused (cond (known rid) r (Err Refusal.Register)) ≡ cond (not (elem rid registers)) 4 (refused r)
+unfolding known
+by_register rid r = tested (elem rid registers) r Refusal.Register
+
+-- ---- what a motor sends
+
+-- one of two tests fails
+of_two : (a b : Bool) → not (a && b) ≡ (not a || not b)
+of_two false b = refl
+of_two true b = refl
+
+above : (n most : ℕ) → not (leb n most) ≡ ltb most n
+above n most = go (leb n most) (leb-true n most) (leb-false n most)
+  where
+    go : (b : Bool) → (b ≡ true → n ≤ most) → (b ≡ false → most < n) → not b ≡ ltb most n
+    go true f g = sym (le-ltb most n (f refl))
+    go false f g = sym (lt-ltb most n (g refl))
+
+by_width : (f : FeedbackFields) → not (all_fit (feedback_fields f)) ≡ Table.too_wide f
+unfolding all_fit
+by_width f =
+    step f.status_code 15 _ _ (step f.can_id 15 _ _ (step f.pos 0xffff _ _ (step f.vel 0xfff _ _ (step f.torq 0xfff _ _ (step f.t_mos 255 _ _ (last f.t_rotor 255))))))
+  where
+    step : (n most : ℕ) (rest wide : Bool) → not rest ≡ wide → not (leb n most && rest) ≡ (ltb most n || wide)
+    step n most rest wide e = of_two (leb n most) rest ∙ (λ i. above n most i || e i)
+
+    last : (n most : ℕ) → not (leb n most && true) ≡ ltb most n
+    last n most = ap not (and-true (leb n most)) ∙ above n most
+
+by_class : (f : FeedbackFields) → Narrow f → refused (unless_register (feedback_class f) (feedback_data f)) ≡ first (Table.register_like_row f ∷ [])
+unfolding class
+by_class f narrow = ap (λ (k : FrameClass). refused (unless_register k (feedback_data f))) (refusals.by_codes f narrow) ∙ go (leb (f.pos / 256) 0x0f) (eqb (f.pos % 256) 0x33) (eqb (f.pos % 256) 0x55) (elem (f.vel / 16) registers)
+  where
+    go : (low reply ack register : Bool) → refused (unless_register (cond (low && (reply && register)) Class.Reply (cond (low && (ack && register)) Class.Ack Class.Feedback)) (feedback_data f)) ≡ cond (low && ((reply || ack) && register)) 13 0
+    go false reply ack register = refl
+    go true true ack true = refl
+    go true true true false = refl
+    go true true false false = refl
+    go true false true true = refl
+    go true false true false = refl
+    go true false false register = refl
+
+by_feedback : (f : FeedbackFields) → refused (feedback f) ≡ Table.feedback_sent f
+unfolding feedback
+by_feedback f = go (all_fit (feedback_fields f)) refl ∙ ap (λ (b : Bool). cond b 14 (first (Table.register_like_row f ∷ []))) (by_width f)
+  where
+    go : (b : Bool) → all_fit (feedback_fields f) ≡ b → refused (cond b (unless_register (feedback_class f) (feedback_data f)) (Err Refusal.FieldWidth)) ≡ cond (not b) 14 (first (Table.register_like_row f ∷ []))
+    go true e = by_class f ((narrow f).0 e)
+    go false e = refl
+
+by_register_sent : (marker id rid bits : ℕ) → refused (register_frame marker id rid bits) ≡ Table.register_sent id rid
+unfolding register_frame
+by_register_sent marker id rid bits = tested (motor_id_accepted id) _ Refusal.FieldWidth ∙ ap (λ (k : ℕ). cond (not (motor_id_accepted id)) 14 k) (by_register rid _)
 
 -- ---- the model list
 
@@ -155,10 +219,6 @@ unfolding answer query_accepted
 by_query q names = tested _ (Ok names) Refusal.Query ∙ ap (λ (b : Bool). cond b 11 0) (of_three (queryable q.p) (queryable q.v) (queryable q.t))
 
 -- ---- starts of runs
-
-by_register : {A : Type 0} (rid : ℕ) (r : Result A Refusal) → refused (cond (known rid) r (Err Refusal.Register)) ≡ cond (not (elem rid registers)) 4 (refused r)
-unfolding known
-by_register rid r = tested (elem rid registers) r Refusal.Register
 
 by_timeout : {A : Type 0} (timeout : Duration) (f : Duration → A) → refused (and_then (checked_timeout timeout) (λ t. Ok (f t))) ≡ first (timeout_row timeout ∷ [])
 by_timeout timeout f = tested_then (timeout_accepted timeout) timeout Refusal.Timeout (λ t. Ok (f t))
@@ -298,6 +358,9 @@ laws = record {
   disable = λ motor. said _ _ _ ∙ by_frame motor _ _;
   set_zero = λ motor. said _ _ _ ∙ by_frame motor _ _;
   clear_error = λ motor. said _ _ _ ∙ by_frame motor _ _;
+  feedbacks = λ f. said _ _ _ ∙ by_feedback f;
+  replies = λ id rid bits. said _ _ _ ∙ by_register_sent 0x33 id rid bits;
+  acks = λ id rid bits. said _ _ _ ∙ by_register_sent 0x55 id rid bits;
   decodings = λ m bytes. said _ _ _ ∙ by_decoding m bytes;
   cached_entries = λ slots rid. said _ _ _ ∙ by_register rid _;
   limits_of_models = λ models name. said _ _ _ ∙ by_model models name;

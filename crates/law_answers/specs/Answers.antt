@@ -89,6 +89,10 @@ state_items s = whole s.can_id ∷ whole s.arbitration_id ∷ whole s.status_cod
 abbrev pub command_items : Command → Items
 command_items c = whole c.arbitration_id ∷ whole c.«data» ∷ []
 
+-- document 02, T-02: eight bytes alone
+abbrev pub data_items : ℕ → Items
+data_items bytes = whole bytes ∷ []
+
 -- the three limits P, V and T
 abbrev pub limit_items : Maxima → Items
 limit_items m = real m.p_max ∷ real m.v_max ∷ real m.t_max ∷ []
@@ -150,6 +154,10 @@ of_patch found = record { number = 0; values = flag found ∷ [] }
 -- a single command frame
 abbrev pub of_command : Result Command Refusal → Numbered Items
 of_command r = itemised command_items r
+
+-- document 02, T-02: what a motor sends
+abbrev pub of_data : Result ℕ Refusal → Numbered Items
+of_data r = itemised data_items r
 
 -- decoding
 abbrev pub of_decoded : Result SensorFeedback Refusal → Numbered Items

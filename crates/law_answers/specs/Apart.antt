@@ -5,7 +5,7 @@ use Rattle.motor_core.specs.declared.error.Refusal.{Refusal}
 use Rattle.session.specs.declared.Session.{Session}
 use Rattle.session_call.specs.Step.{step}
 use Rattle.session_call.specs.declared.Call.{Call}
-use Rattle.law_answers.specs.Answers.{numbered, value_items, entry_items, name_order, feedback_items, state_items, command_items, limit_items, want_items, failure_items, result_items, told_items, of_start, of_run, of_frame, of_patch, of_command, of_decoded, of_entry, of_limits, of_query, kind, kind_of, with_kind}
+use Rattle.law_answers.specs.Answers.{numbered, value_items, entry_items, name_order, feedback_items, state_items, command_items, limit_items, want_items, failure_items, result_items, told_items, of_start, of_run, of_frame, of_patch, of_command, of_data, of_decoded, of_entry, of_limits, of_query, kind, kind_of, with_kind}
 
 -- two that are told the same are the same
 abbrev pub Distinct : {A B : Type 0} → (A → B) → Type 0
@@ -32,6 +32,7 @@ pub record Apart : Type 1 where
   pub frames : Distinct of_frame
   pub patches : Distinct of_patch
   pub single_commands : Distinct of_command
+  pub sent_by_a_motor : Distinct of_data
   pub decodings : Distinct of_decoded
   pub cached : Distinct of_entry
   pub models : Distinct of_limits

@@ -8,6 +8,8 @@ use Rattle.time.specs.Time.{millis}
 use Rattle.time.specs.declared.Duration.{Duration}
 use Rattle.model_query.specs.Query.{answer}
 use Rattle.protocol_request.specs.Request.{register_read_cmd}
+use Rattle.protocol_motor.specs.Motor.{feedback, register_reply, write_ack}
+use Rattle.protocol_motor.specs.Worked.{with_status}
 use Rattle.state_cache.specs.Cache.{cached_entry}
 use Rattle.run_want.specs.declared.Answer.TheVariants.{Send}
 use Rattle.run_want.specs.declared.SendError.TheVariants.{Failed}
@@ -19,7 +21,7 @@ use Rattle.session_call.specs.Step.{step}
 use Rattle.session_call.specs.declared.Call.{Call}
 use Rattle.law_calls.specs.Calls.{session_after}
 use Rattle.law_calls.specs.Worked.{switch, reading, sent, slept, frame, from_motor, ten_is}
-use Rattle.law_answers.specs.Answers.{whole, Items, Numbered, of_start, of_command, of_entry, of_query, of_call}
+use Rattle.law_answers.specs.Answers.{whole, Items, Numbered, of_start, of_command, of_data, of_entry, of_query, of_call}
 
 -- no limit is accepted of these
 abbrev pub no_limits : Maxima
@@ -91,6 +93,9 @@ pub record Occurring (l : PvTLimits) (f : CanFrame) : Type 0 where
   pub mode : number_after l [] (switch 9 (millis 400)) ≡ 10
   pub query : (of_query (answer (record { p = nan; v = nan; t = nan }) [])).number ≡ 11
   pub model : (of_start (from_model 1 0x11 [] [])).number ≡ 12
+  pub register_like : (of_data (feedback (with_status 1))).number ≡ 13
+  pub wide_id : (of_data (register_reply 0x500 10 0)).number ≡ 14
+  pub unknown_sent : (of_data (write_ack 1 37 0)).number ≡ 4
   -- two rows are met
   pub model_first : (of_start (from_model 0x500 0x11 [] [])).number ≡ 12
   pub limit_before_motor_id : (of_start (from_limits 0x500 0x11 no_limits)).number ≡ 1
@@ -100,7 +105,10 @@ pub record Occurring (l : PvTLimits) (f : CanFrame) : Type 0 where
   pub read_only_before_type : number_after l [] (Call.Start (WriteRegisterU32 11 1)) ≡ 5
   pub no_run_before_reading : number_after l [] (reading beyond) ≡ 9
   pub kind_before_reading : number_after l (read_ten ∷ reading 5 ∷ []) (reading beyond) ≡ 9
+  pub wide_before_register_like : (of_data (feedback (with_status 16))).number ≡ 14
+  pub wide_before_register : (of_data (write_ack 0x500 37 0)).number ≡ 14
   -- nothing is turned back
+  pub sent_by_a_motor : of_data (register_reply 1 10 1) ≡ record { number = 0; values = whole 0x0100_330A_0100_0000 ∷ [] }
   pub switched : number_after l [] (switch 1 (millis 400)) ≡ 0
   pub at_the_ends : number_after l (switch 4 (millis 60_000) ∷ []) (reading (2 ^ 62)) ≡ 0
   -- what each result says: done, with a value or a state, or with neither; no state; a mismatch on the third try; the other type. A timeout and a failed send are below

@@ -12,14 +12,16 @@ use Rattle.protocol_feedback.specs.Feedback.{decoded}
 use Rattle.protocol_setpoint.specs.Setpoint.{mit_cmd, pos_vel_cmd, vel_cmd, force_pos_cmd}
 use Rattle.protocol_setpoint.specs.declared.MitSetpoint.{MitSetpoint}
 use Rattle.protocol_request.specs.Request.{register_read_cmd, register_write_cmd, store_params_cmd, feedback_request_cmd, disable_cmd, set_zero_cmd, clear_error_cmd}
+use Rattle.protocol_motor.specs.Motor.{feedback, register_reply, write_ack}
+use Rattle.protocol_motor.specs.declared.FeedbackFields.{FeedbackFields}
 use Rattle.state_cache.specs.Cache.{cached_entry}
 use Rattle.state_cache.specs.declared.Entry.{Entry}
 use Rattle.session.specs.Start.{from_limits, from_model}
 use Rattle.session.specs.declared.Session.{Session}
 use Rattle.session_call.specs.Step.{step}
 use Rattle.session_call.specs.declared.Call.{Call}
-use Rattle.law_answers.specs.Answers.{numbered, of_start, of_command, of_decoded, of_entry, of_limits, of_query, of_call}
-use Rattle.law_answers.specs.TurnedBack.{start_by_limits, start_by_name, command_with_limits, single_command, decoding, query, model_limits, cached, turned_back}
+use Rattle.law_answers.specs.Answers.{numbered, of_start, of_command, of_data, of_decoded, of_entry, of_limits, of_query, of_call}
+use Rattle.law_answers.specs.TurnedBack.{start_by_limits, start_by_name, command_with_limits, single_command, feedback_sent, register_sent, decoding, query, model_limits, cached, turned_back}
 
 pub record Laws : Type 1 where
   -- a number that is not 0 comes alone
@@ -42,6 +44,10 @@ pub record Laws : Type 1 where
   pub disable : (motor : ℕ) → (of_command (disable_cmd motor)).number ≡ single_command motor
   pub set_zero : (motor : ℕ) → (of_command (set_zero_cmd motor)).number ≡ single_command motor
   pub clear_error : (motor : ℕ) → (of_command (clear_error_cmd motor)).number ≡ single_command motor
+  -- what a motor sends
+  pub feedbacks : (f : FeedbackFields) → (of_data (feedback f)).number ≡ feedback_sent f
+  pub replies : (id rid bits : ℕ) → (of_data (register_reply id rid bits)).number ≡ register_sent id rid
+  pub acks : (id rid bits : ℕ) → (of_data (write_ack id rid bits)).number ≡ register_sent id rid
   -- what touches no session
   pub decodings : (m : Maxima) (bytes : List ℕ) → (of_decoded (decoded m bytes)).number ≡ decoding m
   pub cached_entries : (slots : List Entry) (rid : ℕ) → (of_entry (cached_entry slots rid)).number ≡ cached rid

@@ -1,5 +1,5 @@
--- Document 01's table 'Turned back' and its order. Definitions only.
-use Rattle.std.specs.Prelude.{ℕ, Bool, true, false, not, ◌||◌, cond, List, [], ◌∷◌, filter, Option, Some, None}
+-- Document 01's table 'Turned back' and its order, with the rows that document 02 adds. Definitions only.
+use Rattle.std.specs.Prelude.{ℕ, ◌/◌, ◌%◌, Bool, true, false, not, ◌&&◌, ◌||◌, cond, leb, ltb, eqb, List, [], ◌∷◌, filter, Option, Some, None}
 use Rattle.motor_core.specs.Bus.{motor_id_accepted}
 use Rattle.motor_core.specs.Model.{limit_accepted}
 use Rattle.motor_core.specs.Name.{spelling}
@@ -9,6 +9,7 @@ use Rattle.time.specs.Time.{reading_accepted, timeout_accepted}
 use Rattle.time.specs.declared.Duration.{Duration}
 use Rattle.time.specs.declared.Instant.{Instant}
 use Rattle.registers.specs.Registers.{◌to◌, elem, registers, writable, whole_number}
+use Rattle.protocol_motor.specs.declared.FeedbackFields.{FeedbackFields}
 use Rattle.model_list.specs.declared.MotorModelSpec.{MotorModelSpec}
 use Rattle.model_query.specs.Query.{queryable}
 use Rattle.model_query.specs.declared.Query.{Query}
@@ -104,6 +105,23 @@ first_limits_out (spec ∷ rest) = limit_out spec.maxima
 abbrev pub named_limit_row : List MotorModelSpec → List ℕ → Row
 named_limit_row models name = (first_limits_out (of_name models name), 1)
 
+-- T-02: a feedback whose bytes would be read as a register's frame: of the position the high byte is at most 0F and the low one a marker, of the velocity the high eight bits are a known register
+abbrev pub register_like : FeedbackFields → Bool
+register_like f = leb (f.pos / 256) 0x0f && ((eqb (f.pos % 256) 0x33 || eqb (f.pos % 256) 0x55) && elem (f.vel / 16) registers)
+
+abbrev pub register_like_row : FeedbackFields → Row
+register_like_row f = (register_like f, 13)
+
+-- T-02: a field that its bits have no room for, as a temperature's eight always have; an id that T-01 does not accept
+abbrev pub too_wide : FeedbackFields → Bool
+too_wide f = ltb 15 f.status_code || (ltb 15 f.can_id || (ltb 0xffff f.pos || (ltb 0xfff f.vel || (ltb 0xfff f.torq || (ltb 255 f.t_mos || ltb 255 f.t_rotor)))))
+
+abbrev pub wide_row : FeedbackFields → Row
+wide_row f = (too_wide f, 14)
+
+abbrev pub wide_id_row : ℕ → Row
+wide_id_row id = (not (motor_id_accepted id), 14)
+
 -- ---- its order: the first row that is met says the number, and 0 says that nothing is turned back
 
 abbrev pub first : List Row → ℕ
@@ -162,6 +180,13 @@ model_limits models name = first (model_row models name ∷ [])
 
 abbrev pub cached : ℕ → ℕ
 cached rid = first (register_row rid ∷ [])
+
+-- T-02: feedback 14, 13; a register's reply or ack 14, 4
+abbrev pub feedback_sent : FeedbackFields → ℕ
+feedback_sent f = first (wide_row f ∷ register_like_row f ∷ [])
+
+abbrev pub register_sent : ℕ → ℕ → ℕ
+register_sent id rid = first (wide_id_row id ∷ register_row rid ∷ [])
 
 -- any call on a session; a patch is never turned back
 abbrev pub turned_back : Session → Call → ℕ

@@ -14,10 +14,10 @@ use Rattle.registers.specs.Registers.{registers, elem, data_type_of}
 use Rattle.registers.specs.Value.{value_of}
 use Rattle.registers.specs.declared.RegisterValue.TheVariants.{UInt32}
 use Rattle.protocol_codes.specs.Codes.{float_to_uint, uint_to_float}
-use Rattle.protocol_frame.specs.Layout.{packed_onto, little_endian, bytes}
+use Rattle.protocol_frame.specs.Layout.{packed_onto, little_endian, addressed, bytes}
 use Rattle.protocol_frame.specs.Command.{frame_for}
 use Rattle.protocol_setpoint.specs.Setpoint.{mit_cmd, mit_data, force_pos_data, scaled}
-use Rattle.protocol_request.specs.Request.{register_read_data, addressed}
+use Rattle.protocol_request.specs.Request.{register_read_data}
 use Rattle.protocol_feedback.specs.Feedback.{feedback_of, decoded}
 use Rattle.protocol_received.specs.Received.{class, received, register_value}
 use Rattle.protocol_status.specs.Status.{status_name}

@@ -10,9 +10,9 @@ use lib.Dec.{eqb}
 use Rattle.motor_core.proofs.Ids.{accepted_fits}
 use Rattle.motor_core.specs.Bus.{motor_id_accepted}
 use Rattle.registers.specs.Value.{bits_of}
-use Rattle.protocol_frame.specs.Layout.{packed_onto, little_endian, bytes}
+use Rattle.protocol_frame.specs.Layout.{packed_onto, little_endian, addressed, bytes}
 use Rattle.protocol_frame.specs.Command.{command}
-use Rattle.protocol_request.specs.Request.{addressed, register_read_data, register_write_data}
+use Rattle.protocol_request.specs.Request.{register_read_data, register_write_data}
 use Rattle.protocol_hold.specs.Mode.{mode_number, hold_id, hold_data}
 use Rattle.protocol_hold.specs.declared.ControlMode.{ControlMode}
 use Rattle.protocol_hold.specs.declared.ControlMode.TheVariants.{Mit, PosVel, Vel, ForcePos}

@@ -4,9 +4,9 @@ use lib.Ieee.{le}
 use Rattle.motor_core.specs.Model.{limits_of, limit_accepted}
 use Rattle.registers.specs.Registers.{registers, elem, known, info_of, access_of, data_type_of, writable, whole_number}
 use Rattle.registers.specs.Value.{of_type, type_of, value_of, same_value}
-use Rattle.protocol_frame.specs.Layout.{packed_onto, little_endian, bytes}
+use Rattle.protocol_frame.specs.Layout.{packed_onto, little_endian, addressed, bytes}
 use Rattle.protocol_frame.specs.Command.{frame_for}
-use Rattle.protocol_request.specs.Request.{register_read_data, register_write_data, addressed}
+use Rattle.protocol_request.specs.Request.{register_read_data, register_write_data}
 use Rattle.protocol_received.specs.Received.{class, received, register_value}
 use Rattle.session.specs.Session.{fresh}
 use Rattle.session.specs.Start.{from_limits}

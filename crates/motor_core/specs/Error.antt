@@ -1,7 +1,7 @@
--- The numbers of the refusals, document 01's 'Turned back'. Definitions only.
+-- The numbers of the refusals: 1 to 12 are document 01's 'Turned back', those above are document 02's. Definitions only.
 use Rattle.std.specs.Prelude.{ℕ}
 use Rattle.motor_core.specs.declared.error.Refusal.{Refusal}
-use Rattle.motor_core.specs.declared.error.Refusal.TheVariants.{Limit, MotorId, Reading, Register, ReadOnly, ValueType, Timeout, RunOpen, NotWanted, Mode, Query, Model}
+use Rattle.motor_core.specs.declared.error.Refusal.TheVariants.{Limit, MotorId, Reading, Register, ReadOnly, ValueType, Timeout, RunOpen, NotWanted, Mode, Query, Model, RegisterFrame, FieldWidth}
 
 abbrev pub number : Refusal → ℕ
 -- a limit that is not accepted
@@ -28,3 +28,7 @@ number Mode = 10
 number Query = 11
 -- a model's name that the list lacks
 number Model = 12
+-- a feedback that would be read as a register's frame
+number RegisterFrame = 13
+-- a field that is too wide
+number FieldWidth = 14

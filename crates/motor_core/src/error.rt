@@ -16,6 +16,8 @@ pub enum Refusal {
     Mode = 10,
     Query = 11,
     Model = 12,
+    RegisterFrame = 13,
+    FieldWidth = 14,
 }
 
 impl From<Refusal> for u8 {

@@ -1,10 +1,10 @@
 -- Fields that are packed one after the other. Assumes nothing.
 use mathlib.Core.Path.{◌≡◌, sym, ap, ◌∙◌}
 use mathlib.Core.List.{List, [], ◌∷◌}
-use Prim.Native.Nat.{ℕ, ◌+◌, ◌*◌, ◌%◌, ◌^◌, ◌<◌}
+use Prim.Native.Nat.{ℕ, ◌+◌, ◌*◌, ◌/◌, ◌%◌, ◌^◌, ◌<◌}
 use native.Mathlib.Omega.{arith}
 use lib.Pow.{pow-add}
-use Rattle.protocol_frame.specs.Layout.{Field, byte, packed, packed_onto, little_endian, data_byte}
+use Rattle.protocol_frame.specs.Layout.{Field, byte, packed, packed_onto, little_endian, addressed, data_byte}
 
 -- how many bits the fields have
 pub total : List Field → ℕ
@@ -48,9 +48,9 @@ pub record AreBytes (n a b c d e f g h : ℕ) : Type 0 where
   pub d6 : data_byte n 6 ≡ g
   pub d7 : data_byte n 7 ≡ h
 
-pub eight_bytes : (a b c d e f g h : ℕ) → a < 256 → b < 256 → c < 256 → d < 256 → e < 256 → f < 256 → g < 256 → h < 256 → AreBytes (eight a b c d e f g h) a b c d e f g h
+pub eight_bytes : (a b c d e f g h : ℕ) → AreBytes (eight a b c d e f g h) (a % 256) (b % 256) (c % 256) (d % 256) (e % 256) (f % 256) (g % 256) (h % 256)
 unfolding packed_onto
-eight_bytes a b c d e f g h a8 b8 c8 d8 e8 f8 g8 h8 = record {
+eight_bytes a b c d e f g h = record {
   d0 = omega arith;
   d1 = omega arith;
   d2 = omega arith;
@@ -60,3 +60,8 @@ eight_bytes a b c d e f g h a8 b8 c8 d8 e8 f8 g8 h8 = record {
   d6 = omega arith;
   d7 = omega arith;
 }
+
+-- an id, two bytes and a word, each with its lowest byte first
+pub addressed_bytes : (id a b word : ℕ) → AreBytes (addressed id (byte a ∷ byte b ∷ little_endian 4 word)) (id % 256) (id / 256 % 256) (a % 256) (b % 256) (word % 256) (word / 256 % 256) (word / 256 / 256 % 256) (word / 256 / 256 / 256 % 256)
+unfolding packed_onto addressed little_endian
+addressed_bytes id a b word = eight_bytes id (id / 256) a b word (word / 256) (word / 256 / 256) (word / 256 / 256 / 256)

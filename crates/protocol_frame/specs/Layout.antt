@@ -1,5 +1,5 @@
 -- How numbers lie in a frame's data: one number of 64 bits, of which d0 is the highest byte. Definitions only.
-use Rattle.std.specs.Prelude.{ℕ, zero, suc, ◌+◌, ◌-◌, ◌*◌, ◌/◌, ◌%◌, ◌^◌, List, [], ◌∷◌, get_or}
+use Rattle.std.specs.Prelude.{ℕ, zero, suc, ◌+◌, ◌-◌, ◌*◌, ◌/◌, ◌%◌, ◌^◌, Bool, true, ◌&&◌, leb, List, [], ◌∷◌, ◌++◌, get_or}
 
 -- so many bits, which hold a number's lowest ones
 pub record Field : Type 0 where
@@ -11,6 +11,11 @@ field w n = record { width = w; value = n }
 
 abbrev pub byte : ℕ → Field
 byte n = field 8 n
+
+-- whether the bits have room for the numbers
+unfoldable pub all_fit : List Field → Bool
+all_fit [] = true
+all_fit (f ∷ fs) = leb f.value (2 ^ f.width - 1) && all_fit fs
 
 -- fields after n, high bit first
 unfoldable pub packed_onto : ℕ → List Field → ℕ
@@ -25,6 +30,11 @@ packed fs = packed_onto 0 fs
 unfoldable pub little_endian : ℕ → ℕ → List Field
 little_endian zero n = []
 little_endian (suc k) n = byte n ∷ little_endian k (n / 256)
+
+-- 'The command bytes', requests, and the motor's answers to them: an id in d0 and d1, lowest byte first, and what follows it
+unfoldable pub addressed : ℕ → List Field → ℕ
+unfolding packed_onto little_endian
+addressed id rest = packed (little_endian 2 id ++ rest)
 
 -- k bytes, all n
 unfoldable pub bytes : ℕ → ℕ → List Field

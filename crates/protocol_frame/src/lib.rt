@@ -2,8 +2,8 @@
 // is one number of 64 bits, of which d0 is the highest byte.
 #![tactic(auto)]
 
-ghost use Rattle.std.specs.Prelude.{◌≡◌};
-ghost use Rattle.protocol_frame.specs.Layout.{packed, little_endian, data_bytes};
+ghost use Rattle.std.specs.Prelude.{◌≡◌, ◌∷◌};
+ghost use Rattle.protocol_frame.specs.Layout.{byte, packed, little_endian, addressed, data_bytes};
 ghost use Rattle.protocol_frame.specs.Command as Spec;
 
 use motor_core::error::Refusal;
@@ -21,6 +21,15 @@ pub fn reversed(n: u32) -> u32
     ensures { result ≡ packed (little_endian 4 n) }
 {
     n.swap_bytes()
+}
+
+// An id of 16 bits, two bytes, and a word; id and word lowest byte first.
+#[tactic(auto, unfolding(crate::specs::Layout::addressed))]
+pub fn addressed(id: u16, d2: u8, d3: u8, word: u32) -> u64
+    ensures { result ≡ addressed id (byte d2 ∷ byte d3 ∷ little_endian 4 word) }
+{
+    let head = u64::from(id.swap_bytes());
+    ((head * 256 + u64::from(d2)) * 256 + u64::from(d3)) * 0x1_0000_0000 + u64::from(reversed(word))
 }
 
 // The eight data bytes, d0 first, for the caller to send.

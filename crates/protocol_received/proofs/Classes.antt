@@ -4,6 +4,7 @@ use mathlib.Core.Bool.{Bool, true, false, ◌&&◌, ◌||◌, cond, true≢false
 use mathlib.Core.List.{List}
 use Prim.Native.Nat.{ℕ}
 use lib.Dec.{leb, eqb}
+use borrow.Author.Tests.{eqb-true}
 use Rattle.registers.specs.Registers.{registers, known, elem}
 use Rattle.protocol_received.specs.Received.{class}
 use Rattle.protocol_received.specs.declared.FrameClass.{FrameClass}
@@ -52,29 +53,29 @@ marked d1 d2 d3 reply e k f = ap (λ (b : Bool). cond b Reply Ack) (sym f) ∙ g
     go true true ack true e k = refl
     go true false true true e k = refl
 
--- a frame that is no feedback names a register of the list
-abbrev Names : FrameClass → Bool → Type 0
-Names Reply k = k ≡ true
-Names Ack k = k ≡ true
-Names Feedback k = Unit {0}
+-- a frame that is no feedback names a register of the list, and has its marker
+abbrev Names : FrameClass → Bool → Bool → Bool → Type 0
+Names Reply reply ack register = (register ≡ true) × (reply ≡ true)
+Names Ack reply ack register = (register ≡ true) × (ack ≡ true)
+Names Feedback reply ack register = Unit {0}
 
-names : (rs : List ℕ) (d1 d2 d3 : ℕ) → Names (class rs d1 d2 d3) (elem d3 rs)
+names : (rs : List ℕ) (d1 d2 d3 : ℕ) → Names (class rs d1 d2 d3) (eqb d2 0x33) (eqb d2 0x55) (elem d3 rs)
 unfolding class
 names rs d1 d2 d3 = go (leb d1 0x0f) (eqb d2 0x33) (eqb d2 0x55) (elem d3 rs)
   where
-    go : (low reply ack register : Bool) → Names (by_tests low reply ack register) register
+    go : (low reply ack register : Bool) → Names (by_tests low reply ack register) reply ack register
     go false reply ack register = tt
-    go true true ack true = refl
+    go true true ack true = (refl, refl)
     go true true true false = tt
     go true true false false = tt
-    go true false true true = refl
+    go true false true true = (refl, refl)
     go true false true false = tt
     go true false false register = tt
 
-pub reply_known : (d1 d2 d3 : ℕ) → class registers d1 d2 d3 ≡ Reply → known d3 ≡ true
+pub of_reply : (d1 d2 d3 : ℕ) → class registers d1 d2 d3 ≡ Reply → (known d3 ≡ true) × (d2 ≡ 0x33)
 unfolding known
-reply_known d1 d2 d3 e = rw e at (names registers d1 d2 d3)
+of_reply d1 d2 d3 e = let (register, reply) = rw e at (names registers d1 d2 d3) in (register, eqb-true d2 0x33 reply)
 
-pub ack_known : (d1 d2 d3 : ℕ) → class registers d1 d2 d3 ≡ Ack → known d3 ≡ true
+pub of_ack : (d1 d2 d3 : ℕ) → class registers d1 d2 d3 ≡ Ack → (known d3 ≡ true) × (d2 ≡ 0x55)
 unfolding known
-ack_known d1 d2 d3 e = rw e at (names registers d1 d2 d3)
+of_ack d1 d2 d3 e = let (register, ack) = rw e at (names registers d1 d2 d3) in (register, eqb-true d2 0x55 ack)

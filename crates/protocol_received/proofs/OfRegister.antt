@@ -8,13 +8,13 @@ use Rattle.protocol_frame.specs.Layout.{d}
 use Rattle.protocol_received.specs.Received.{class_of, by_class, received}
 use Rattle.protocol_received.specs.declared.FrameClass.{FrameClass}
 use Rattle.protocol_received.specs.declared.FrameClass.TheVariants as Class
-use Rattle.protocol_received.proofs.Classes.{reply_known, ack_known}
+use Rattle.protocol_received.proofs.Classes.{of_reply, of_ack}
 
 pub of_register : (l : PvTLimits) (bytes : List ℕ) → OfRegister (received l bytes) (d bytes 3)
 unfolding received
 of_register l bytes = go (class_of bytes) refl
   where
     go : (k : FrameClass) → class_of bytes ≡ k → OfRegister (by_class k l bytes) (d bytes 3)
-    go Class.Reply e = (refl, reply_known _ _ _ e)
-    go Class.Ack e = (refl, ack_known _ _ _ e)
+    go Class.Reply e = (refl, (of_reply _ _ _ e).0)
+    go Class.Ack e = (refl, (of_ack _ _ _ e).0)
     go Class.Feedback e = tt

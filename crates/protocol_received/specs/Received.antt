@@ -24,9 +24,12 @@ class rids d1 d2 d3 =
 abbrev pub class_of : List ℕ → FrameClass
 class_of bytes = class registers (d bytes 1) (d bytes 2) (d bytes 3)
 
--- a value of the type in d4 to d7, lowest byte first
+-- the 32 bits in d4 to d7, lowest byte first
+abbrev pub word : List ℕ → ℕ
+word bytes = d bytes 4 + d bytes 5 * 0x100 + d bytes 6 * 0x1_0000 + d bytes 7 * 0x100_0000
+
 abbrev pub typed_value : RegisterDataType → List ℕ → RegisterValue
-typed_value type bytes = value_of type (d bytes 4 + d bytes 5 * 0x100 + d bytes 6 * 0x1_0000 + d bytes 7 * 0x100_0000)
+typed_value type bytes = value_of type (word bytes)
 
 -- the register's value, by the type of the register in d3
 unfoldable pub register_value : List ℕ → RegisterValue

@@ -35,9 +35,9 @@ pub enum Received {
 }
 
 // The third byte of a register's reply and of an ack.
-const REPLY: u8 = 0x33;
+pub const REPLY: u8 = 0x33;
 
-const ACK: u8 = 0x55;
+pub const ACK: u8 = 0x55;
 
 // Whether d1 and d2 are a register frame's.
 fn marks_register(d1: u8, d2: u8) -> bool

@@ -1,16 +1,11 @@
 -- Requests to the motor: register reads and writes, storing, feedback; and disable, zero and clear, which only their last byte tells apart. Definitions only.
-use Rattle.std.specs.Prelude.{ℕ, List, [], ◌∷◌, ◌++◌, Result}
-use Rattle.protocol_frame.specs.Layout.{Field, byte, packed, packed_onto, little_endian, bytes}
+use Rattle.std.specs.Prelude.{ℕ, [], ◌∷◌, ◌++◌, Result}
+use Rattle.protocol_frame.specs.Layout.{byte, packed, packed_onto, little_endian, bytes, addressed}
 use Rattle.protocol_frame.specs.Command.{frame_for}
 use Rattle.motor_core.specs.declared.error.Refusal.{Refusal}
 use Rattle.protocol_frame.specs.declared.Command.{Command}
 
--- ---- the eight data bytes
-
--- 'The command bytes', requests: the motor id, lowest byte first, and what follows it
-unfoldable pub addressed : ℕ → List Field → ℕ
-unfolding packed_onto little_endian
-addressed motor rest = packed (little_endian 2 motor ++ rest)
+-- ---- the eight data bytes; 'The command bytes', requests: the motor id first
 
 unfoldable pub register_read_data : ℕ → ℕ → ℕ
 unfolding addressed bytes

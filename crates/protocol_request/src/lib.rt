@@ -2,12 +2,11 @@
 // only their last byte tells apart. Each as its data, and as a frame or a refusal.
 #![tactic(auto)]
 
-ghost use Rattle.std.specs.Prelude.{◌≡◌, [], ◌∷◌};
-ghost use Rattle.protocol_frame.specs.Layout.{field, byte};
+ghost use Rattle.std.specs.Prelude.{◌≡◌};
 ghost use Rattle.protocol_request.specs.Request as Spec;
 
 use motor_core::error::Refusal;
-use protocol_frame::Command;
+use protocol_frame::{Command, addressed};
 
 // The arbitration id of register and store commands and of feedback requests.
 pub const REQUEST_ID: u32 = 0x7ff;
@@ -17,15 +16,6 @@ const DISABLE: u64 = 0xffff_ffff_ffff_fffd;
 const SET_ZERO: u64 = 0xffff_ffff_ffff_fffe;
 
 const CLEAR_ERROR: u64 = 0xffff_ffff_ffff_fffb;
-
-// The motor id, lowest byte first, then two bytes and a word of four.
-#[tactic(auto, unfolding(crate::specs::Request::addressed))]
-fn addressed(motor_id: u16, d2: u8, d3: u8, word: u32) -> u64
-    ensures { result ≡ Spec.addressed motor_id (byte d2 ∷ byte d3 ∷ field 32 word ∷ []) }
-{
-    let head = u64::from(motor_id.swap_bytes());
-    ((head * 256 + u64::from(d2)) * 256 + u64::from(d3)) * 0x1_0000_0000 + u64::from(word)
-}
 
 #[tactic(auto, unfolding(crate::specs::Request::register_read_data))]
 pub fn encode_register_read_cmd(motor_id: u16, rid: u8) -> u64
@@ -38,7 +28,7 @@ pub fn encode_register_read_cmd(motor_id: u16, rid: u8) -> u64
 pub fn encode_register_write_cmd(motor_id: u16, rid: u8, bits: u32) -> u64
     ensures { result ≡ Spec.register_write_data motor_id rid bits }
 {
-    addressed(motor_id, 0x55, rid, protocol_frame::reversed(bits))
+    addressed(motor_id, 0x55, rid, bits)
 }
 
 #[tactic(auto, unfolding(crate::specs::Request::store_params_data))]

@@ -14,7 +14,7 @@ use Rattle.script.specs.declared.Fault.{Fault}
 use Rattle.script.specs.declared.Fault.TheVariants.{LongLine, ControlByte, UnknownWord, NotLent, TooFew, TooMany, WrongArgument}
 use Rattle.script.specs.declared.calls.Row.{Row}
 use Rattle.script.specs.declared.calls.CallName.{CallName}
-use Rattle.script.specs.declared.calls.CallName.TheVariants.{StartLimits, StartModel, GetU32, GetF32, WriteU32, WriteF32, FreshState, Store, Mode, Clock, Sent, SendTimeout, SendFailed, Slept, Frame, FrameLent, Accepts, Patch, Session, Mit, PosVel, Vel, ForcePos, ReadReg, WriteReg, StoreParams, FeedbackRequest, Disable, Zero, Clear, Decode, Sort, StatusName, Register, Match, Suggest}
+use Rattle.script.specs.declared.calls.CallName.TheVariants.{StartLimits, StartModel, GetU32, GetF32, WriteU32, WriteF32, FreshState, Store, Mode, Clock, Sent, SendTimeout, SendFailed, Slept, Frame, FrameLent, Accepts, Patch, Session, Mit, PosVel, Vel, ForcePos, ReadReg, WriteReg, StoreParams, FeedbackRequest, Disable, Zero, Clear, MakeFeedback, MakeReply, MakeAck, Decode, Sort, StatusName, Register, Match, Suggest}
 
 -- what a call looks like: its word, its name, the kinds of its arguments, and whether `lent` may stand before it
 pub record Form : Type 0 where
@@ -61,12 +61,15 @@ calls =
     (form "disable" Disable (U16 ∷ [])
     (form "zero" Zero (U16 ∷ [])
     (form "clear" Clear (U16 ∷ [])
+    (form "make-feedback" MakeFeedback (U8 ∷ (U8 ∷ (U32 ∷ (U32 ∷ (U32 ∷ (U8 ∷ (U8 ∷ [])))))))
+    (form "make-reply" MakeReply (U16 ∷ (U8 ∷ (U32 ∷ [])))
+    (form "make-ack" MakeAck (U16 ∷ (U8 ∷ (U32 ∷ [])))
     (form "decode" Decode (U32 ∷ (U32 ∷ (U32 ∷ (U64 ∷ []))))
     (form "sort" Sort (U64 ∷ [])
     (form "status-name" StatusName (U8 ∷ [])
     (form "register" Register (U8 ∷ [])
     (form "match" Match (U32 ∷ (U32 ∷ (U32 ∷ (U32 ∷ []))))
-    (form "suggest" Suggest (U32 ∷ (U32 ∷ (U32 ∷ (U64 ∷ [])))) [])))))))))))))))))))))))))))))))))))
+    (form "suggest" Suggest (U32 ∷ (U32 ∷ (U32 ∷ (U64 ∷ [])))) []))))))))))))))))))))))))))))))))))))))
 
 abbrev pub form_of : Row → Form
 form_of r = record { word = r.0.now; name = r.1; kinds = r.2.now; lends = r.3 }

@@ -38,6 +38,9 @@ pub enum CallName {
     Disable,
     Zero,
     Clear,
+    MakeFeedback,
+    MakeReply,
+    MakeAck,
     Decode,
     Sort,
     StatusName,
@@ -55,7 +58,7 @@ pub struct Row(
     pub bool,
 );
 
-static CALLS: [Row; 36] = [
+static CALLS: [Row; 39] = [
     Row(
         b"start-limits",
         CallName::StartLimits,
@@ -116,6 +119,14 @@ static CALLS: [Row; 36] = [
     Row(b"disable", CallName::Disable, &[U16], false),
     Row(b"zero", CallName::Zero, &[U16], false),
     Row(b"clear", CallName::Clear, &[U16], false),
+    Row(
+        b"make-feedback",
+        CallName::MakeFeedback,
+        &[U8, U8, U32, U32, U32, U8, U8],
+        false,
+    ),
+    Row(b"make-reply", CallName::MakeReply, &[U16, U8, U32], false),
+    Row(b"make-ack", CallName::MakeAck, &[U16, U8, U32], false),
     Row(b"decode", CallName::Decode, &[U32, U32, U32, U64], false),
     Row(b"sort", CallName::Sort, &[U64], false),
     Row(b"status-name", CallName::StatusName, &[U8], false),

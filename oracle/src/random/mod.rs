@@ -20,6 +20,7 @@ use runs::Runs;
 pub enum Family {
     FramesOut,
     FramesIn,
+    MotorSide,
     Models,
     Tables,
     Sessions,
@@ -35,9 +36,10 @@ pub fn families(list: &str) -> Result<Vec<Family>, String> {
     let mut families = Vec::new();
     for kind in list.split(',') {
         let chosen: &[Family] = match kind {
-            "stateless" => &[FramesOut, FramesIn, Models, Tables],
+            "stateless" => &[FramesOut, FramesIn, MotorSide, Models, Tables],
             "frames-out" => &[FramesOut],
             "frames-in" => &[FramesIn],
+            "motor-side" => &[MotorSide],
             "models" => &[Models],
             "tables" => &[Tables],
             "sessions" => &[Sessions],
@@ -45,12 +47,12 @@ pub fn families(list: &str) -> Result<Vec<Family>, String> {
             "mode" => &[Mode],
             "bad" => &[Bad],
             "all" => &[
-                FramesOut, FramesIn, Models, Tables, Sessions, Runs, Mode, Bad,
+                FramesOut, FramesIn, MotorSide, Models, Tables, Sessions, Runs, Mode, Bad,
             ],
             _ => {
                 return Err(format!(
-                    "no kind '{kind}': all, stateless, frames-out, frames-in, models, tables, \
-                     sessions, runs, mode, bad"
+                    "no kind '{kind}': all, stateless, frames-out, frames-in, motor-side, models, \
+                     tables, sessions, runs, mode, bad"
                 ))
             }
         };
@@ -177,10 +179,13 @@ impl Generator<'_> {
         match family {
             FramesOut => stateless::frames_out(rng),
             FramesIn => stateless::frames_in(rng),
+            MotorSide => stateless::motor_side(rng),
             Models => stateless::models(rng),
             Tables => stateless::tables(rng),
             Bad => {
-                let family = rng.pick(&[FramesOut, FramesIn, Models, Tables, Sessions, Runs, Mode]);
+                let family = rng.pick(&[
+                    FramesOut, FramesIn, MotorSide, Models, Tables, Sessions, Runs, Mode,
+                ]);
                 let good = self.line(family);
                 bad::line(&mut self.rng, good)
             }

@@ -90,6 +90,24 @@ pub fn frames_in(rng: &mut Rng) -> Vec<u8> {
         .bytes
 }
 
+/// What a motor sends.
+pub fn motor_side(rng: &mut Rng) -> Vec<u8> {
+    if rng.chance(40) {
+        let word = rng.pick(&["make-reply", "make-ack"]);
+        let (id, rid) = (values::motor_id(rng), values::rid(rng));
+        let text = Text::new(word).number(rng, id).number(rng, rid);
+        return text.float_drawn(rng).bytes;
+    }
+    let [motor, status, position, velocity, torque] = values::feedback_fields(rng);
+    let text = [motor, status, position, velocity, torque]
+        .into_iter()
+        .fold(Text::new("make-feedback"), |text, field| {
+            text.number(rng, field)
+        });
+    let [mos, rotor] = [rng.next() as u8, rng.next() as u8];
+    text.number(rng, mos).number(rng, rotor).bytes
+}
+
 pub fn models(rng: &mut Rng) -> Vec<u8> {
     let queries = values::queries(rng);
     if rng.chance(50) {

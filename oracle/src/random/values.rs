@@ -282,3 +282,42 @@ fn register_head(rng: &mut Rng, data: &mut [u8; 8]) {
     };
     data[3] = rid(rng);
 }
+
+/// Motor, status and the three codes of a feedback: one of them too wide now and then, the codes often at
+/// their ends, and often a position and velocity that are read as a register's frame, or nearly.
+pub fn feedback_fields(rng: &mut Rng) -> [u32; 5] {
+    let mut fields = [4, 4, 16, 12, 12].map(|bits| field(rng, bits));
+    if rng.chance(50) {
+        let mut data = [0; 8];
+        register_head(rng, &mut data);
+        fields[2] = u32::from_be_bytes([0, 0, data[1], data[2]]);
+        fields[3] = u32::from(data[3]) << 4 | rng.below(16) as u32;
+    }
+    if rng.chance(25) {
+        let at = rng.below(5) as usize;
+        let (most, widest) = [
+            (0xF, 0xFF),
+            (0xF, 0xFF),
+            (0xFFFF, u32::MAX),
+            (0xFFF, u32::MAX),
+            (0xFFF, u32::MAX),
+        ][at];
+        fields[at] = match rng.below(4) {
+            0 | 1 => most + 1,
+            2 => widest,
+            _ => most + 1 + rng.below(u64::from(widest - most)) as u32,
+        };
+    }
+    fields
+}
+
+/// A number of so many bits.
+fn field(rng: &mut Rng, bits: u32) -> u32 {
+    let most = (1 << bits) - 1;
+    match rng.below(8) {
+        0 => most,
+        1 => most - 1,
+        2 => rng.below(2) as u32,
+        _ => rng.below(1 << bits) as u32,
+    }
+}

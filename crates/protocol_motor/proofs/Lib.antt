@@ -1,0 +1,4 @@
+pub mod Fields
+pub mod Refused
+pub mod RoundTrip
+pub mod Worked

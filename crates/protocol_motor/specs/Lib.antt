@@ -1,0 +1,4 @@
+pub mod Motor
+pub mod Refused
+pub mod RoundTrip
+pub mod Worked
