@@ -49,6 +49,7 @@ of_feedback f n e = let (narrow, class, same) = (refused.feedback_written f n).0
     subst (FeedbackRead f) same
     (record {
       read = λ l. ap (λ (k : FrameClass). by_class k l (data_bytes (feedback_data f))) class ∙ ap (λ (g : FeedbackFields). Receive.Feedback (meaning l g)) back;
+      decoded = λ l. ap (meaning l) back;
       fields = back;
     })
 

@@ -8,7 +8,7 @@ use Rattle.registers.specs.Value.{value_of, bits_of}
 use Rattle.registers.specs.declared.RegisterValue.{RegisterValue}
 use Rattle.protocol_codes.specs.Codes.{uint_to_float}
 use Rattle.protocol_frame.specs.Layout.{byte, packed, d, data_bytes}
-use Rattle.protocol_feedback.specs.Feedback.{position_code, velocity_code, torque_code}
+use Rattle.protocol_feedback.specs.Feedback.{position_code, velocity_code, torque_code, feedback_of}
 use Rattle.protocol_feedback.specs.declared.SensorFeedback.{SensorFeedback}
 use Rattle.protocol_received.specs.Received.{class_of, word, received}
 use Rattle.protocol_received.specs.declared.FrameClass.TheVariants as Class
@@ -45,6 +45,8 @@ fields_of bytes = record {
 
 pub record FeedbackRead (f : FeedbackFields) (n : ℕ) : Type 0 where
   pub read : (l : PvTLimits) → received l (data_bytes n) ≡ Receive.Feedback (meaning l f)
+  -- decoding, which does not sort
+  pub decoded : (l : PvTLimits) → feedback_of l (data_bytes n) ≡ meaning l f
   pub fields : fields_of (data_bytes n) ≡ f
 
 -- ---- a register's frame
