@@ -32,11 +32,11 @@ use Rattle.model_list.specs.Models.{limits_by_name}
 use Rattle.model_list.specs.declared.MotorModelSpec.{MotorModelSpec}
 use Rattle.model_query.specs.Query.{queryable, query_accepted, answer}
 use Rattle.model_query.specs.declared.Query.{Query}
+use Rattle.protocol_frame.specs.Layout.{all_fit}
 use Rattle.protocol_frame.specs.Command.{command, frame_for}
 use Rattle.protocol_setpoint.specs.Setpoint.{mit_cmd, mit_data}
 use Rattle.protocol_setpoint.specs.declared.MitSetpoint.{MitSetpoint}
 use Rattle.protocol_feedback.specs.Feedback.{feedback_of, decoded}
-use Rattle.protocol_frame.specs.Layout.{all_fit}
 use Rattle.protocol_received.specs.Received.{class}
 use Rattle.protocol_received.specs.declared.FrameClass.{FrameClass}
 use Rattle.protocol_received.specs.declared.FrameClass.TheVariants as Class

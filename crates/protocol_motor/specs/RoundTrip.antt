@@ -67,9 +67,13 @@ pub record RegisterRead (frame : ℕ → RegisterValue → Received) (id rid bit
   pub id_back : id_of (data_bytes n) ≡ id
   pub word_back : word (data_bytes n) ≡ bits
 
+-- ---- both ways
+
+-- the bytes that a number of 64 bits has as data
 abbrev pub AreData : List ℕ → ℕ → Type 0
 AreData bytes n = (n < 2 ^ 64) × (data_bytes n ≡ bytes)
 
+-- each number is a byte
 abbrev pub Bytes : List ℕ → Type 0
 Bytes [] = Unit {0}
 Bytes (b ∷ bs) = (b < 256) × Bytes bs

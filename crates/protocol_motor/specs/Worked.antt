@@ -1,7 +1,13 @@
--- Written frames, and fields that are refused. `proofs/Worked.antt` has the proof. Definitions only.
+-- T-02: frames that are written and read back, and fields that are refused. `proofs/Worked.antt` has the proof. Definitions only.
 use Rattle.std.specs.Prelude.{ℕ, ◌≡◌, Ok, Err}
 use Rattle.motor_core.specs.declared.error.Refusal.TheVariants.{FieldWidth, Register, RegisterFrame}
+use Rattle.motor_core.specs.declared.model.PvTLimits.{PvTLimits}
+use Rattle.registers.specs.declared.RegisterValue.TheVariants.{Nan, UInt32}
+use Rattle.protocol_frame.specs.Layout.{data_bytes}
+use Rattle.protocol_received.specs.Received.{received}
+use Rattle.protocol_received.specs.declared.Received.TheVariants as Receive
 use Rattle.protocol_motor.specs.Motor.{feedback, register_reply, write_ack}
+use Rattle.protocol_motor.specs.RoundTrip.{meaning}
 use Rattle.protocol_motor.specs.declared.FeedbackFields.{FeedbackFields}
 
 -- a feedback of motor 1, whose status is 1
@@ -24,6 +30,11 @@ pub record Worked : Type 0 where
   pub reply : register_reply 1 10 0x0403_0201 ≡ Ok 0x0100_330A_0102_0304
   pub ack : write_ack 1 10 0x0403_0201 ≡ Ok 0x0100_550A_0102_0304
   pub read_only_ack : write_ack 0x4ff 13 0 ≡ Ok 0xFF04_550D_0000_0000
+  -- read back: no two fields alike; a reply with a NaN's bits in a float register; an ack
+  pub places_read : (l : PvTLimits) → received l (data_bytes 0xC234_5678_9ABD_EF10) ≡ Receive.Feedback (meaning l apart)
+  pub nan : register_reply 0x102 0 0x7FC1_2345 ≡ Ok 0x0201_3300_4523_C17F
+  pub nan_read : (l : PvTLimits) → received l (data_bytes 0x0201_3300_4523_C17F) ≡ Receive.Reply 0 (Nan (record { 0 = 0x7FC1_2345 }))
+  pub ack_read : (l : PvTLimits) → received l (data_bytes 0x0100_550A_0102_0304) ≡ Receive.Ack 10 (UInt32 0x0403_0201)
   -- position 0F 33: d3 is register 10, or 37, which is none; one with a higher position, and one with an ack's marker
   pub as_register_10 : feedback (with_codes 0x0F33 0x0A0 0) ≡ Err RegisterFrame
   pub as_37 : feedback (with_codes 0x0F33 0x250 0) ≡ Ok 0x110F_3325_0000_1E28
