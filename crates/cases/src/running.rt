@@ -17,18 +17,18 @@ use time::{Duration, Instant};
 
 const MINUTE: Duration = Duration(60_000_000_000);
 
-// A reply of register 10, and an ack; each holds 1. Then an ack that holds 2.
-const REPLY: u64 = 0x1100_330a_0100_0000;
+// Motor 1's reply of register 10, and its ack; each holds 1. Then an ack that holds 2.
+const REPLY: u64 = 0x0100_330a_0100_0000;
 
-const ACK: u64 = 0x1100_550a_0100_0000;
+const ACK: u64 = 0x0100_550a_0100_0000;
 
-const ACK_TWO: u64 = 0x1100_550a_0200_0000;
+const ACK_TWO: u64 = 0x0100_550a_0200_0000;
 
-// Replies of register 80: a NaN, and the position that makes a frame which holds it the read of
-// register 10, for the motor 0x4FF.
-const NAN_POSITION: u64 = 0x1100_3350_4523_c17f;
+// Replies of register 80: a NaN from motor 1, and from the motor 0x4FF the position that makes a frame
+// which holds it the read of register 10.
+const NAN_POSITION: u64 = 0x0100_3350_4523_c17f;
 
-const POSITION_4FF: u64 = 0x1f00_3350_ff04_330a;
+const POSITION_4FF: u64 = 0xff04_3350_ff04_330a;
 
 // How a run begins: the calls on register 10, and the switch to a mode.
 #[derive(Clone, Copy)]

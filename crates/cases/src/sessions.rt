@@ -14,7 +14,12 @@ use time::Instant;
 
 const FEEDBACK: u64 = 0x1100_0000_0000_1e28;
 
-const TEN_IS_ONE: u64 = 0x110f_330a_0100_0000;
+const TEN_IS_ONE: u64 = 0x0100_330a_0100_0000;
+
+// The same of motor 17, and with the d0 and d1 of the motor 0xF11, which there is not.
+const REPLY_OF_17: u64 = 0x1100_330a_0100_0000;
+
+const REPLY_OF_NO_MOTOR: u64 = 0x110f_330a_0100_0000;
 
 fn with_limit(motor_id: u16, p_max: f32) -> Result<Session, Refusal> {
     let maxima = Maxima {
@@ -33,9 +38,9 @@ pub(crate) fn of_motor(motor_id: u16) -> Result<Session, Refusal> {
     with_limit(motor_id, 12.5)
 }
 
-fn frame(data: u64) -> CanFrame {
+fn frame_on(arbitration_id: u32, data: u64) -> CanFrame {
     CanFrame {
-        arbitration_id: 0x11,
+        arbitration_id,
         data: protocol_frame::data_bytes(data),
         dlc: 8,
         is_extended: false,
@@ -43,7 +48,7 @@ fn frame(data: u64) -> CanFrame {
 }
 
 pub(crate) fn take(session: Session, data: u64, reading: u64) -> AfterFrame {
-    take_frame(session, frame(data), Instant(reading))
+    take_frame(session, frame_on(0x11, data), Instant(reading))
 }
 
 // The number of the latest record, 0 if there is none.
@@ -95,7 +100,7 @@ fn patch_with_none(rt: &impl Print) -> Result<(), Refusal> {
     Ok(())
 }
 
-// What is cached of a register's reply after 0F 33: its bits, or 0 with none; or the refusal.
+// What is cached of a register's reply after one of register 10: its bits, or 0 with none; or the refusal.
 fn cached(rt: &impl Print, name: &[u8], rid: u8) -> Result<(), Refusal> {
     let session = take(started()?, TEN_IS_ONE, 5).session;
     match cached_entry(session.replies, rid) {
@@ -115,6 +120,35 @@ fn bits_of(entry: Entry) -> u64 {
     }
 }
 
+// A frame on an id, with this reading, after one at 5.
+fn other(rt: &impl Print, name: &[u8], id: u32, data: u64, reading: u64) -> Result<(), Refusal> {
+    let session = take(started()?, FEEDBACK, 5).session;
+    let after = take_frame(session, frame_on(id, data), Instant(reading));
+    line(rt, name, refusal(after.told));
+    Ok(())
+}
+
+fn others(rt: &impl Print) -> Result<(), Refusal> {
+    other(rt, b"refusal of 11 0F 33 0A: ", 0x11, REPLY_OF_NO_MOTOR, 5)?;
+    other(rt, b"of motor 17's reply: ", 0x11, REPLY_OF_17, 5)?;
+    other(rt, b"before the last reading: ", 0x11, REPLY_OF_17, 4)?;
+    other(
+        rt,
+        b"of motor 17's feedback on its own id: ",
+        0x21,
+        FEEDBACK,
+        5,
+    )?;
+    other(rt, b"the same on the feedback id: ", 0x11, FEEDBACK, 5)?;
+    let session = take(started()?, REPLY_OF_17, 9).session;
+    line(
+        rt,
+        b"after a refused frame at 9, of one at 1: ",
+        refusal(take(session, FEEDBACK, 1).told),
+    );
+    Ok(())
+}
+
 // The refusal of a start with the motor id 500.
 fn limit_refusal(rt: &impl Print, name: &[u8], p_max: f32) {
     line(rt, name, refusal(with_limit(0x500, p_max)));
@@ -130,10 +164,11 @@ fn model_refusal(rt: &impl Print, name: &[u8], model: &[u8]) {
 
 pub(crate) fn run(rt: &impl Print) -> Result<(), Refusal> {
     numbers_end(rt)?;
-    cached(rt, b"register 10 after 0F 33: ", 10)?;
+    cached(rt, b"register 10 after 01 00 33 0A: ", 10)?;
     cached(rt, b"register 9: ", 9)?;
     cached(rt, b"register 37: ", 37)?;
     readings(rt)?;
+    others(rt)?;
     patch_with_none(rt)?;
     limit_refusal(rt, b"start with limit 0 and motor id 500: ", 0.0);
     model_refusal(rt, b"with an unknown name and motor id 500: ", b"4311");

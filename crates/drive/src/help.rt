@@ -70,7 +70,8 @@ const REFUSALS: &[u8] = b"\
     refused 11: a query that is not from -65536 to 65536\n\
     refused 12: a name that no model has\n\
     refused 13: a feedback that would be read as a register's frame\n\
-    refused 14: a field that is too wide\n";
+    refused 14: a field that is too wide\n\
+    refused 15: a frame that is not this motor's\n";
 
 pub(crate) fn put_help(page: &mut Page) {
     for call in &CALLS {

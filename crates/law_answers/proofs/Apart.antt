@@ -9,7 +9,7 @@ use Rattle.std.specs.Prelude.{drop, eqb, get_or, Some, None, Ok, Err}
 use Rattle.motor_core.specs.Error.{number}
 use Rattle.motor_core.proofs.Turned.{clash}
 use Rattle.motor_core.specs.declared.error.Refusal.{Refusal}
-use Rattle.motor_core.specs.declared.error.Refusal.TheVariants.{Limit, MotorId, Reading, Register, ReadOnly, ValueType, Timeout, RunOpen, NotWanted, Mode, Query, Model, RegisterFrame, FieldWidth}
+use Rattle.motor_core.specs.declared.error.Refusal.TheVariants.{Limit, MotorId, Reading, Register, ReadOnly, ValueType, Timeout, RunOpen, NotWanted, Mode, Query, Model, RegisterFrame, FieldWidth, ForeignFrame}
 use Rattle.motor_core.specs.declared.model.Maxima.{Maxima}
 use Rattle.registers.specs.declared.RegisterValue.{RegisterValue}
 use Rattle.registers.specs.declared.RegisterValue.TheVariants as Value
@@ -41,7 +41,7 @@ read_back f back same a b e = sym (same a) ∙ ap back e ∙ same b
 -- ---- numbers
 
 refusal : ℕ → Refusal
-refusal n = get_or (Limit ∷ Limit ∷ MotorId ∷ Reading ∷ Register ∷ ReadOnly ∷ ValueType ∷ Timeout ∷ RunOpen ∷ NotWanted ∷ Mode ∷ Query ∷ Model ∷ RegisterFrame ∷ FieldWidth ∷ []) n Limit
+refusal n = get_or (Limit ∷ Limit ∷ MotorId ∷ Reading ∷ Register ∷ ReadOnly ∷ ValueType ∷ Timeout ∷ RunOpen ∷ NotWanted ∷ Mode ∷ Query ∷ Model ∷ RegisterFrame ∷ FieldWidth ∷ ForeignFrame ∷ []) n Limit
 
 refusal_back : (r : Refusal) → refusal (number r) ≡ r
 unfolding refusal
@@ -59,6 +59,7 @@ refusal_back Query = refl
 refusal_back Model = refl
 refusal_back RegisterFrame = refl
 refusal_back FieldWidth = refl
+refusal_back ForeignFrame = refl
 
 -- 0 is read back as a refusal whose number is 1
 no_zero : (r : Refusal) → number r ≡ 0 → ⊥

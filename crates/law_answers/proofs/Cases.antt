@@ -9,6 +9,7 @@ use Rattle.registers.specs.Value.{of_type, type_of, value_of, same_value}
 use Rattle.protocol_frame.specs.Layout.{packed_onto, little_endian, addressed, bytes, all_fit, data_bytes}
 use Rattle.protocol_frame.specs.Command.{frame_for}
 use Rattle.protocol_request.specs.Request.{register_read_data}
+use Rattle.protocol_address.specs.Address.{own_frame}
 use Rattle.protocol_received.specs.Received.{class, received, register_value}
 use Rattle.protocol_motor.specs.Motor.{feedback_data, feedback, register_frame}
 use Rattle.model_list.specs.Models.{limits_by_name}
@@ -22,7 +23,7 @@ use Rattle.law_calls.specs.Calls.{session_after}
 use Rattle.law_answers.specs.Cases.{Occurring}
 
 pub occurring : (l : PvTLimits) (f : CanFrame) → Occurring l f
-unfolding all_fit data_bytes feedback_data feedback register_frame le limits_of limit_accepted registers elem known info_of access_of data_type_of writable whole_number of_type type_of frame_for packed_onto little_endian bytes register_read_data addressed class received register_value value_of limits_by_name queryable query_accepted answer fresh from_limits from_model take_frame answer_run step session_after same_value nan_bits
+unfolding all_fit data_bytes feedback_data feedback register_frame le limits_of limit_accepted registers elem known info_of access_of data_type_of writable whole_number of_type type_of frame_for packed_onto little_endian bytes register_read_data addressed own_frame class received register_value value_of limits_by_name queryable query_accepted answer fresh from_limits from_model take_frame answer_run step session_after same_value nan_bits
 occurring l f = record {
   limit = refl;
   motor_id = refl;
@@ -43,6 +44,8 @@ occurring l f = record {
   register_like = refl;
   wide_id = refl;
   unknown_sent = refl;
+  other_motor = refl;
+  no_motor = refl;
   model_first = refl;
   limit_before_motor_id = refl;
   run_open_before_mode = refl;
@@ -53,6 +56,7 @@ occurring l f = record {
   kind_before_reading = refl;
   wide_before_register_like = refl;
   wide_before_register = refl;
+  reading_before_foreign = refl;
   sent_by_a_motor = refl;
   switched = refl;
   at_the_ends = refl;

@@ -32,11 +32,13 @@ use Rattle.model_list.specs.Models.{limits_by_name}
 use Rattle.model_list.specs.declared.MotorModelSpec.{MotorModelSpec}
 use Rattle.model_query.specs.Query.{queryable, query_accepted, answer}
 use Rattle.model_query.specs.declared.Query.{Query}
-use Rattle.protocol_frame.specs.Layout.{all_fit}
+use Rattle.protocol_frame.specs.Layout.{d, all_fit}
 use Rattle.protocol_frame.specs.Command.{command, frame_for}
 use Rattle.protocol_setpoint.specs.Setpoint.{mit_cmd, mit_data}
 use Rattle.protocol_setpoint.specs.declared.MitSetpoint.{MitSetpoint}
 use Rattle.protocol_feedback.specs.Feedback.{feedback_of, decoded}
+use Rattle.protocol_address.specs.Address.{names_motor, own_frame}
+use Rattle.protocol_received.proofs.Classes.{by_tests}
 use Rattle.protocol_received.specs.Received.{class}
 use Rattle.protocol_received.specs.declared.FrameClass.{FrameClass}
 use Rattle.protocol_received.specs.declared.FrameClass.TheVariants as Class
@@ -56,6 +58,7 @@ use Rattle.run_machine.specs.declared.Machine.{Machine}
 use Rattle.run_arguments.specs.Arguments.{checked_timeout, get_start, write_by, write_start}
 use Rattle.session.specs.Session.{fresh}
 use Rattle.session.specs.Start.{with_limits, from_limits, from_model}
+use Rattle.session.specs.declared.Head.{Head}
 use Rattle.session.specs.declared.Session.{Session}
 use Rattle.session_frame.specs.Frame.{take_frame}
 use Rattle.session_frame.proofs.Effects as Frame
@@ -315,9 +318,32 @@ by_answer s a = stepped (answer_step s.head (entry s) s.run a) ∙ go s.run a
     go (Some m) (Send sent) = wanted m (Send sent) _
     go (Some m) Slept = wanted m Slept _
 
-by_frame_taken : (s : Session) (f : CanFrame) (t : Instant) → refused (take_frame s f t).told ≡ Table.frame_taken s t
+-- this motor's frame fails none of the tests
+by_own : (h : Head) (f : CanFrame) → not (own_frame h.motor_id h.feedback_id f) ≡ Table.foreign h f
+unfolding own_frame class
+by_own h f = whole f.is_extended (eqb f.dlc 8) (eqb f.arbitration_id h.feedback_id) _ _ (by_sorting (leb (d f.«data» 1) 0x0f) (eqb (d f.«data» 2) 0x33) (eqb (d f.«data» 2) 0x55) (elem (d f.«data» 3) registers))
+  where
+    whole : (extended length id named other : Bool) → not named ≡ other → not ((not extended && (length && id)) && named) ≡ (extended || (not length || (not id || other)))
+    whole true length id named other e = refl
+    whole false false id named other e = refl
+    whole false true false named other e = refl
+    whole false true true named other e = e
+
+    -- by the tests that sort it
+    by_sorting : (low reply ack register : Bool) → not (names_motor h.motor_id (by_tests low reply ack register) f.«data») ≡ cond (low && ((reply || ack) && register)) (not (eqb (d f.«data» 0) (h.motor_id % 256)) || not (eqb (d f.«data» 1) (h.motor_id / 256))) (not (eqb (d f.«data» 0 % 16) (h.motor_id % 16)))
+    by_sorting false reply ack register = refl
+    by_sorting true true ack true = of_two _ _
+    by_sorting true true true false = refl
+    by_sorting true true false false = refl
+    by_sorting true false true true = of_two _ _
+    by_sorting true false true false = refl
+    by_sorting true false false register = refl
+
+by_frame_taken : (s : Session) (f : CanFrame) (t : Instant) → refused (take_frame s f t).told ≡ Table.frame_taken s f t
 unfolding take_frame
-by_frame_taken s f t = tested (reading_accepted s.head.last t) (Ok tt) Refusal.Reading
+by_frame_taken s f t =
+    tested (reading_accepted s.head.last t) _ Refusal.Reading
+    ∙ ap (λ (k : ℕ). cond (not (reading_accepted s.head.last t)) 3 k) (tested (own_frame s.head.motor_id s.head.feedback_id f) (Ok tt) Refusal.ForeignFrame ∙ ap (λ (b : Bool). cond b 15 0) (by_own s.head f))
 
 -- ---- any call
 

@@ -55,7 +55,14 @@ abbrev pub read_ten : Call
 read_ten = Call.Start (GetRegisterU32 10 (millis 100))
 
 abbrev pub ten_is_one : CanFrame
-ten_is_one = ten_is 0x11 0x0F 1
+ten_is_one = ten_is 0x01 0x00 1
+
+-- the same from motor 17, and with the bytes of an id that no motor has
+abbrev pub ten_of_17 : CanFrame
+ten_of_17 = ten_is 0x11 0x00 1
+
+abbrev pub marked_ten : CanFrame
+marked_ten = ten_is 0x11 0x0F 1
 
 -- the same register's ack, and a float register's reply that it holds a NaN
 abbrev pub ack_ten : ℕ → CanFrame
@@ -80,7 +87,7 @@ pub record Occurring (l : PvTLimits) (f : CanFrame) : Type 0 where
   pub limit : (of_start (from_limits 1 0x11 no_limits)).number ≡ 1
   pub motor_id : (of_command (register_read_cmd 0x500 10)).number ≡ 2
   pub frame_reading : number_after l [] (frame f beyond) ≡ 3
-  pub earlier_frame : number_after l (frame f 5 ∷ []) (frame f 4) ≡ 3
+  pub earlier_frame : number_after l (frame ten_is_one 5 ∷ []) (frame f 4) ≡ 3
   pub answer_reading : number_after l switching (reading beyond) ≡ 3
   pub register : number_after l [] (Call.Start (GetRegisterU32 37 (millis 100))) ≡ 4
   pub cached_register : (of_entry (cached_entry [] 37)).number ≡ 4
@@ -96,6 +103,8 @@ pub record Occurring (l : PvTLimits) (f : CanFrame) : Type 0 where
   pub register_like : (of_data (feedback (with_status 1))).number ≡ 13
   pub wide_id : (of_data (register_reply 0x500 10 0)).number ≡ 14
   pub unknown_sent : (of_data (write_ack 1 37 0)).number ≡ 4
+  pub other_motor : number_after l [] (frame ten_of_17 5) ≡ 15
+  pub no_motor : number_after l [] (frame marked_ten 5) ≡ 15
   -- two rows are met
   pub model_first : (of_start (from_model 0x500 0x11 [] [])).number ≡ 12
   pub limit_before_motor_id : (of_start (from_limits 0x500 0x11 no_limits)).number ≡ 1
@@ -107,6 +116,7 @@ pub record Occurring (l : PvTLimits) (f : CanFrame) : Type 0 where
   pub kind_before_reading : number_after l (read_ten ∷ reading 5 ∷ []) (reading beyond) ≡ 9
   pub wide_before_register_like : (of_data (feedback (with_status 16))).number ≡ 14
   pub wide_before_register : (of_data (write_ack 0x500 37 0)).number ≡ 14
+  pub reading_before_foreign : number_after l [] (frame ten_of_17 beyond) ≡ 3
   -- nothing is turned back
   pub sent_by_a_motor : of_data (register_reply 1 10 1) ≡ record { number = 0; values = whole 0x0100_330A_0100_0000 ∷ [] }
   pub switched : number_after l [] (switch 1 (millis 400)) ≡ 0

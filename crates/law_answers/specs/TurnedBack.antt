@@ -3,12 +3,14 @@ use Rattle.std.specs.Prelude.{ℕ, ◌/◌, ◌%◌, Bool, true, false, not, ◌
 use Rattle.motor_core.specs.Bus.{motor_id_accepted}
 use Rattle.motor_core.specs.Model.{limit_accepted}
 use Rattle.motor_core.specs.Name.{spelling}
+use Rattle.motor_core.specs.declared.bus.CanFrame.{CanFrame}
 use Rattle.motor_core.specs.declared.model.Maxima.{Maxima}
 use Rattle.text.specs.Text.{same}
 use Rattle.time.specs.Time.{reading_accepted, timeout_accepted}
 use Rattle.time.specs.declared.Duration.{Duration}
 use Rattle.time.specs.declared.Instant.{Instant}
 use Rattle.registers.specs.Registers.{◌to◌, elem, registers, writable, whole_number}
+use Rattle.protocol_frame.specs.Layout.{d}
 use Rattle.protocol_motor.specs.declared.FeedbackFields.{FeedbackFields}
 use Rattle.model_list.specs.declared.MotorModelSpec.{MotorModelSpec}
 use Rattle.model_query.specs.Query.{queryable}
@@ -18,6 +20,7 @@ use Rattle.run_want.specs.declared.Answer.{Answer}
 use Rattle.run_want.specs.declared.Answer.TheVariants.{Reading, Send, Slept}
 use Rattle.run_machine.specs.Machine.{machine_want}
 use Rattle.run_machine.specs.declared.Machine.{Machine}
+use Rattle.session.specs.declared.Head.{Head}
 use Rattle.session.specs.declared.Session.{Session}
 use Rattle.session_begin.specs.declared.Start.{Start}
 use Rattle.session_begin.specs.declared.Start.TheVariants.{GetRegisterU32, GetRegisterF32, WriteRegisterU32, WriteRegisterF32, RequestFreshState, StoreParameters, EnsureControlMode}
@@ -105,9 +108,13 @@ first_limits_out (spec ∷ rest) = limit_out spec.maxima
 abbrev pub named_limit_row : List MotorModelSpec → List ℕ → Row
 named_limit_row models name = (first_limits_out (of_name models name), 1)
 
--- T-02: a feedback whose bytes would be read as a register's frame: of the position the high byte is at most 0F and the low one a marker, of the velocity the high eight bits are a known register
+-- bytes d1, d2 and d3 of a register's frame: the first at most 0F, the second a marker, the third a known register
+abbrev pub of_register : ℕ → ℕ → ℕ → Bool
+of_register d1 d2 d3 = leb d1 0x0f && ((eqb d2 0x33 || eqb d2 0x55) && elem d3 registers)
+
+-- T-02: a feedback whose bytes would be read as one: the position's high byte and its low one, and the velocity's high eight bits
 abbrev pub register_like : FeedbackFields → Bool
-register_like f = leb (f.pos / 256) 0x0f && ((eqb (f.pos % 256) 0x33 || eqb (f.pos % 256) 0x55) && elem (f.vel / 16) registers)
+register_like f = of_register (f.pos / 256) (f.pos % 256) (f.vel / 16)
 
 abbrev pub register_like_row : FeedbackFields → Row
 register_like_row f = (register_like f, 13)
@@ -121,6 +128,20 @@ wide_row f = (too_wide f, 14)
 
 abbrev pub wide_id_row : ℕ → Row
 wide_id_row id = (not (motor_id_accepted id), 14)
+
+-- T-03: of another motor: the two bytes of a register's frame that have its id, or feedback's low four bits, differ
+abbrev pub of_other_motor : ℕ → List ℕ → Bool
+of_other_motor motor bytes =
+    cond (of_register (d bytes 1) (d bytes 2) (d bytes 3))
+    (not (eqb (d bytes 0) (motor % 256)) || not (eqb (d bytes 1) (motor / 256)))
+    (not (eqb (d bytes 0 % 16) (motor % 16)))
+
+-- T-03: a frame that is extended, not of eight bytes, on another id, or of another motor
+abbrev pub foreign : Head → CanFrame → Bool
+foreign h f = f.is_extended || (not (eqb f.dlc 8) || (not (eqb f.arbitration_id h.feedback_id) || of_other_motor h.motor_id f.«data»))
+
+abbrev pub foreign_row : Head → CanFrame → Row
+foreign_row h f = (foreign h f, 15)
 
 -- ---- its order: the first row that is met says the number, and 0 says that nothing is turned back
 
@@ -164,9 +185,9 @@ answer_rows opened last Slept = unwanted_row opened Slept ∷ []
 abbrev pub answer : Session → Answer → ℕ
 answer s given = first (answer_rows s.run s.head.last given)
 
--- frame taken 3
-abbrev pub frame_taken : Session → Instant → ℕ
-frame_taken s reading = first (reading_row s.head.last reading ∷ [])
+-- frame taken 3, 15
+abbrev pub frame_taken : Session → CanFrame → Instant → ℕ
+frame_taken s frame reading = first (reading_row s.head.last reading ∷ foreign_row s.head frame ∷ [])
 
 -- decoding, a query, a model's limits, a cached entry
 abbrev pub decoding : Maxima → ℕ
@@ -192,5 +213,5 @@ register_sent id rid = first (wide_id_row id ∷ register_row rid ∷ [])
 abbrev pub turned_back : Session → Call → ℕ
 turned_back s (Call.Start start) = run s start
 turned_back s (Call.Answer given) = answer s given
-turned_back s (Call.Frame frame reading) = frame_taken s reading
+turned_back s (Call.Frame frame reading) = frame_taken s frame reading
 turned_back s (Call.Patch status mos rotor) = 0

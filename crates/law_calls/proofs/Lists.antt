@@ -19,6 +19,7 @@ use Rattle.session_call.specs.declared.Returned.{Returned}
 use Rattle.state_cache.specs.declared.Entry.{Entry}
 use Rattle.state_cache.specs.declared.Place.{Place}
 use Rattle.law_calls.specs.Calls.{Event, event, events, session_after, Answered}
+use Rattle.motor_core.specs.declared.bus.CanFrame.{CanFrame}
 use Rattle.law_calls.specs.Places.{brings, replaced, last_taken, Sees, seen_after, seen_with}
 use Rattle.law_calls.specs.Turns.{Gave, Turn, turn, turn_in, turn_of, add_turn, turns, result_in, result_of, gaves, count}
 
@@ -32,10 +33,10 @@ unfolding session_after events
 events_joined s [] cs = refl
 events_joined s (b ∷ bs) cs = ap (λ (vs : List Event). event s b ∷ vs) (events_joined (step s b).session bs cs)
 
-pub places_joined : (place : Place) (e : Entry) (us vs : List Event) → last_taken place e (us ++ vs) ≡ last_taken place (last_taken place e us) vs
+pub places_joined : (own : CanFrame → Bool) (place : Place) (e : Entry) (us vs : List Event) → last_taken own place e (us ++ vs) ≡ last_taken own place (last_taken own place e us) vs
 unfolding last_taken
-places_joined place e [] vs = refl
-places_joined place e (u ∷ us) vs = places_joined place (replaced e (brings place u.call u.returned)) us vs
+places_joined own place e [] vs = refl
+places_joined own place e (u ∷ us) vs = places_joined own place (replaced e (brings own place u.call u.returned)) us vs
 
 pub counts_joined : (f : Gave → Bool) (ts us : List Turn) → count f (gaves (ts ++ us)) ≡ count f (gaves ts) + count f (gaves us)
 unfolding gaves count
@@ -74,16 +75,17 @@ call_adds sees latest (Call.Answer a) r w = returned_adds a sees latest w r
 call_adds sees latest (Call.Frame f reading) r w = no_turn
 call_adds sees latest (Call.Patch status mos rotor) r w = no_turn
 
-pub turns_joined : (us vs : List Event) (sees : Sees) → result_of (turns sees us) ≡ None → turns sees (us ++ vs) ≡ turns sees us ++ turns (seen_after sees us) vs
-unfolding turns last_taken
-turns_joined [] vs sees e = refl
-turns_joined (u ∷ us) vs sees e =
-    let adds = call_adds sees u.latest u.call u.returned u.wants in
-    let rest = adds.no_result (turns (seen_with sees u) us) (turns (seen_after (seen_with sees u) us) vs) e in
-    ap (add_turn sees u.latest u.call u.returned u.wants) (turns_joined us vs (seen_with sees u) rest.1) ∙ rest.0
+module _ (own : CanFrame → Bool) where
+  pub turns_joined : (us vs : List Event) (sees : Sees) → result_of (turns own sees us) ≡ None → turns own sees (us ++ vs) ≡ turns own sees us ++ turns own (seen_after own sees us) vs
+  unfolding turns last_taken
+  turns_joined [] vs sees e = refl
+  turns_joined (u ∷ us) vs sees e =
+      let adds = call_adds sees u.latest u.call u.returned u.wants in
+      let rest = adds.no_result (turns own (seen_with own sees u) us) (turns own (seen_after own (seen_with own sees u) us) vs) e in
+      ap (add_turn sees u.latest u.call u.returned u.wants) (turns_joined us vs (seen_with own sees u) rest.1) ∙ rest.0
 
-pub turns_over : (us vs : List Event) (sees : Sees) (r : RunResult) → result_of (turns sees us) ≡ Some r → turns sees (us ++ vs) ≡ turns sees us
-unfolding turns result_of
-turns_over [] vs sees r e = absurd (none-some _ e)
-turns_over (u ∷ us) vs sees r e =
-    (call_adds sees u.latest u.call u.returned u.wants).a_result (turns (seen_with sees u) us) (turns (seen_with sees u) (us ++ vs)) r e (turns_over us vs (seen_with sees u) r)
+  pub turns_over : (us vs : List Event) (sees : Sees) (r : RunResult) → result_of (turns own sees us) ≡ Some r → turns own sees (us ++ vs) ≡ turns own sees us
+  unfolding turns result_of
+  turns_over [] vs sees r e = absurd (none-some _ e)
+  turns_over (u ∷ us) vs sees r e =
+      (call_adds sees u.latest u.call u.returned u.wants).a_result (turns own (seen_with own sees u) us) (turns own (seen_with own sees u) (us ++ vs)) r e (turns_over us vs (seen_with own sees u) r)

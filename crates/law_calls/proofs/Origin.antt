@@ -25,7 +25,7 @@ equal_places (Reply rid) (Ack other) e = absurd (true≢false (sym e))
 equal_places (Ack rid) (Reply other) e = absurd (true≢false (sym e))
 equal_places (Ack rid) (Ack other) e = ap Ack (sym (eqb-true rid other e))
 
-module _ (place : Place) (value : RegisterValue) (stamp : Instant) where
+module _ (own : CanFrame → Bool) (place : Place) (value : RegisterValue) (stamp : Instant) where
   abbrev entry : Entry
   entry = Held value stamp
 
@@ -34,6 +34,7 @@ module _ (place : Place) (value : RegisterValue) (stamp : Instant) where
     frame : CanFrame
     call : c ≡ Call.Frame frame stamp
     taken : r ≡ Returned.Frame (Ok tt)
+    is_own : own frame ≡ true
     says : said frame ≡ Some (place, value)
 
   same_value : (v : RegisterValue) (t : Instant) → ◌≡◌ {A = Option Entry} (Some (Held v t)) (Some entry) → v ≡ value
@@ -42,27 +43,32 @@ module _ (place : Place) (value : RegisterValue) (stamp : Instant) where
   same_stamp : (v : RegisterValue) (t : Instant) → ◌≡◌ {A = Option Entry} (Some (Held v t)) (Some entry) → t ≡ stamp
   same_stamp v t e = cc
 
-  by_frame : (f : CanFrame) (t : Instant) (r : Returned) → frame_brings place f t r ≡ Some entry → Brought (Call.Frame f t) r
+  by_frame : (f : CanFrame) (t : Instant) (r : Returned) → frame_brings own place f t r ≡ Some entry → Brought (Call.Frame f t) r
   unfolding frame_brings
   by_frame f t (Returned.Run told) e = absurd (none-some _ e)
-  by_frame f t (Returned.Frame (Ok taken)) e = go (said f) refl e
+  by_frame f t (Returned.Frame (Ok taken)) e = counts (own f) refl e
     where
-      go : (x : Option (Place × RegisterValue)) → said f ≡ x → entry_of place t x ≡ Some entry → Brought (Call.Frame f t) (Returned.Frame (Ok taken))
-      go None is e = absurd (none-some _ e)
-      go (Some x) is e = at (same_place place x.0) refl e
+      go : own f ≡ true → (x : Option (Place × RegisterValue)) → said f ≡ x → entry_of place t x ≡ Some entry → Brought (Call.Frame f t) (Returned.Frame (Ok taken))
+      go mine None is e = absurd (none-some _ e)
+      go mine (Some x) is e = at (same_place place x.0) refl e
         where
           at : (b : Bool) → same_place place x.0 ≡ b → ◌≡◌ {A = Option Entry} (cond b (Some (Held x.1 t)) None) (Some entry) → Brought (Call.Frame f t) (Returned.Frame (Ok taken))
           at true same e = record {
             frame = f;
             call = ap (Call.Frame f) (same_stamp x.1 t e);
             taken = refl;
+            is_own = mine;
             says = is ∙ λ i. Some (equal_places place x.0 same i, same_value x.1 t e i);
           }
           at false same e = absurd (none-some _ e)
+
+      counts : (b : Bool) → own f ≡ b → cond b (entry_of place t (said f)) None ≡ Some entry → Brought (Call.Frame f t) (Returned.Frame (Ok taken))
+      counts true mine e = go mine (said f) refl e
+      counts false mine e = absurd (none-some _ e)
   by_frame f t (Returned.Frame (Err refusal)) e = absurd (none-some _ e)
   by_frame f t (Returned.Patch done) e = absurd (none-some _ e)
 
-  by_call : (c : Call) (r : Returned) → brings place c r ≡ Some entry → Brought c r
+  by_call : (c : Call) (r : Returned) → brings own place c r ≡ Some entry → Brought c r
   unfolding brings
   by_call (Call.Start b) r e = absurd (none-some _ e)
   by_call (Call.Answer a) r e = absurd (none-some _ e)
@@ -71,19 +77,19 @@ module _ (place : Place) (value : RegisterValue) (stamp : Instant) where
 
   -- nothing of the place was taken and it was there before, or it came in the list
   abbrev Came : Entry → List Event → Type 0
-  Came e vs = (NoneTaken place vs × (e ≡ entry)) ⊎ Taken place value stamp vs
+  Came e vs = (NoneTaken own place vs × (e ≡ entry)) ⊎ Taken own place value stamp vs
 
-  came : (e : Entry) (vs : List Event) → last_taken place e vs ≡ entry → Came e vs
+  came : (e : Entry) (vs : List Event) → last_taken own place e vs ≡ entry → Came e vs
   unfolding last_taken NoneTaken
   came e [] is = inl (tt, is)
-  came e (v ∷ vs) is = go (brings place v.call v.returned) refl (came (replaced e (brings place v.call v.returned)) vs is)
+  came e (v ∷ vs) is = go (brings own place v.call v.returned) refl (came (replaced e (brings own place v.call v.returned)) vs is)
     where
-      go : (b : Option Entry) → brings place v.call v.returned ≡ b → Came (replaced e b) vs → Came e (v ∷ vs)
-      go b at (inr t) = inr record { before = v ∷ t.before; event = t.event; later = t.later; frame = t.frame; whole = ap (λ (us : List Event). v ∷ us) t.whole; call = t.call; taken = t.taken; says = t.says; is_last = t.is_last }
+      go : (b : Option Entry) → brings own place v.call v.returned ≡ b → Came (replaced e b) vs → Came e (v ∷ vs)
+      go b at (inr t) = inr record { before = v ∷ t.before; event = t.event; later = t.later; frame = t.frame; whole = ap (λ (us : List Event). v ∷ us) t.whole; call = t.call; taken = t.taken; is_own = t.is_own; says = t.says; is_last = t.is_last }
       go None at (inl (none, same)) = inl ((at, none), same)
       go (Some x) at (inl (none, same)) =
           let t = by_call v.call v.returned (at ∙ ap (λ (y : Entry). Some y) same) in
-          inr record { before = []; event = v; later = vs; frame = t.frame; whole = refl; call = t.call; taken = t.taken; says = t.says; is_last = none }
+          inr record { before = []; event = v; later = vs; frame = t.frame; whole = refl; call = t.call; taken = t.taken; is_own = t.is_own; says = t.says; is_last = none }
 
 empty≢held : (value : RegisterValue) (stamp : Instant) → Empty ≡ Held value stamp → ⊥
 empty≢held value stamp e = true≢false (ap empty e)
@@ -92,9 +98,9 @@ empty≢held value stamp e = true≢false (ap empty e)
     empty Empty = true
     empty (Held v t) = false
 
-pub origin : (vs : List Event) (place : Place) (value : RegisterValue) (stamp : Instant) → last_taken place Empty vs ≡ Held value stamp → Taken place value stamp vs
-origin vs place value stamp is = go (came place value stamp Empty vs is)
+pub origin : (own : CanFrame → Bool) (vs : List Event) (place : Place) (value : RegisterValue) (stamp : Instant) → last_taken own place Empty vs ≡ Held value stamp → Taken own place value stamp vs
+origin own vs place value stamp is = go (came own place value stamp Empty vs is)
   where
-    go : Came place value stamp Empty vs → Taken place value stamp vs
+    go : Came own place value stamp Empty vs → Taken own place value stamp vs
     go (inl (none, same)) = absurd (empty≢held value stamp same)
     go (inr taken) = taken

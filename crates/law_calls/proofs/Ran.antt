@@ -43,7 +43,7 @@ use Rattle.law_calls.specs.Places.{brings, Sees, seen_with}
 use Rattle.law_calls.specs.Ran.{looked_at, gives, gives_result, Took, next, Onward, Ran}
 use Rattle.law_calls.specs.Turns.{Gave, Turn, turn_in, turn_of, add_turn, turns}
 use Rattle.law_calls.proofs.Readings.{step_goes_on}
-use Rattle.law_calls.proofs.Sessions.{Sound, step_sound, step_held, answer_sound}
+use Rattle.law_calls.proofs.Sessions.{own_of, Sound, step_sound, step_held, answer_sound}
 
 -- told by the motor id and the limits alone
 same_told : (h k : Head) (w : Want Message) → h.motor_id ≡ k.motor_id → h.limits ≡ k.limits → caller_want h w ≡ caller_want k w
@@ -78,7 +78,7 @@ module _ (h : Head) where
   -- ---- over a list of calls
 
   abbrev Holds : List Call → Type 0
-  Holds cs = (s : Session) (m : Machine) → s.run ≡ Some m → Sound h s → Ran h (session_after s cs) m s.head.last (turns (held s) (events s cs))
+  Holds cs = (s : Session) (m : Machine) → s.run ≡ Some m → Sound h s → Ran h (session_after s cs) m s.head.last (turns (own_of h) (held s) (events s cs))
 
   abbrev machine_or : Machine → Option Machine → Machine
   machine_or m None = m
@@ -86,16 +86,16 @@ module _ (h : Head) where
 
   module _ (cs : List Call) (rest : Holds cs) (s : Session) (m : Machine) (o : s.run ≡ Some m) (sound : Sound h s) where
     -- a call that leaves the run is no turn of it
-    passes : (c : Call) → (step s c).session.run ≡ s.run → let s' = (step s c).session in Ran h (session_after s' cs) m s.head.last (turns (seen_with (held s) (event s c)) (events s' cs))
+    passes : (c : Call) → (step s c).session.run ≡ s.run → let s' = (step s c).session in Ran h (session_after s' cs) m s.head.last (turns (own_of h) (seen_with (own_of h) (held s) (event s c)) (events s' cs))
     passes c run =
         let s' = (step s c).session in
         earlier (session_after s' cs) m s.head.last s'.head.last _ (step_goes_on s c)
-        (subst (λ (sees : Sees). Ran h (session_after s' cs) m s'.head.last (turns sees (events s' cs))) (λ i place. step_held h s c sound place i)
+        (subst (λ (sees : Sees). Ran h (session_after s' cs) m s'.head.last (turns (own_of h) sees (events s' cs))) (λ i place. step_held h s c sound place i)
         (rest s' m (run ∙ o) (step_sound h s c sound)))
 
     -- of what an answer came to
     abbrev Came : Answer → AfterCall → Type 0
-    Came a r = Ran h (session_after r.session cs) m s.head.last (turn_in a (held s) s.head.feedback.latest (open_want r.session.run) r.told (turns (held s) (events r.session cs)))
+    Came a r = Ran h (session_after r.session cs) m s.head.last (turn_in a (held s) s.head.feedback.latest (open_want r.session.run) r.told (turns (own_of h) (held s) (events r.session cs)))
 
     -- an answer that is taken
     module _ (a : Answer) (accepted : answer_accepted s.head.last a ≡ true) (fit : fits (machine_want m) a ≡ true) where

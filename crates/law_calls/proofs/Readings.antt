@@ -45,7 +45,7 @@ use Rattle.law_calls.specs.Calls.{events, session_after}
 use Rattle.law_calls.specs.Laws.{held, accepted_by, accepted_reading, Next, last_with, Rising, last_reading, stamp_of, record_stamp}
 use Rattle.law_calls.specs.Places.{frame_brings, entry_of, said, replaced, same_place}
 use Rattle.std.proofs.lemmas.Option.{none-some}
-use Rattle.law_calls.proofs.Sessions.{Sound, step_sound, start_held, answer_held, frame_held}
+use Rattle.law_calls.proofs.Sessions.{own_of, Sound, step_sound, start_held, answer_held, frame_held}
 use Rattle.law_calls.proofs.Sessions as Sessions
 
 -- ---- one call
@@ -144,9 +144,9 @@ module _ (h : Head) (s : Session) (sound : Sound h s) (stamped : Stamped s) wher
   new_stamp old t place (Some e) is below forward = (omega (arith, is e refl), omega (arith, is e refl))
 
   -- what a frame brings has its reading
-  brought_stamp : (f : CanFrame) (t : Instant) (place : Place) (e : Entry) → frame_brings place f t (Returned.Frame (Ok tt)) ≡ Some e → stamp_of e ≡ t.0
+  brought_stamp : (f : CanFrame) (t : Instant) (place : Place) (e : Entry) → frame_brings (own_of h) place f t (Returned.Frame (Ok tt)) ≡ Some e → stamp_of e ≡ t.0
   unfolding frame_brings
-  brought_stamp f t place e is = go (said f) is
+  brought_stamp f t place e is = counts (own_of h f) is
     where
       same : (v : RegisterValue) → ◌≡◌ {A = Option Entry} (Some (Held v t)) (Some e) → Held v t ≡ e
       same v is = cc
@@ -158,6 +158,10 @@ module _ (h : Head) (s : Session) (sound : Sound h s) (stamped : Stamped s) wher
           at : (b : Bool) → ◌≡◌ {A = Option Entry} (cond b (Some (Held x.1 t)) None) (Some e) → stamp_of e ≡ t.0
           at true is = ap stamp_of (sym (same x.1 is))
           at false is = absurd (none-some _ is)
+
+      counts : (own : Bool) → cond own (entry_of place t (said f)) None ≡ Some e → stamp_of e ≡ t.0
+      counts true is = go (said f) is
+      counts false is = absurd (none-some _ is)
 
   record_stamps : (x : Option MotorFeedbackState) (t : Instant) (cache : FeedbackCache) → record_stamp cache.latest ≤ s.head.last.0 → s.head.last.0 ≤ t.0
       → (record_stamp cache.latest ≤ record_stamp (record_with x t cache).latest) × (record_stamp (record_with x t cache).latest ≤ t.0)
@@ -173,9 +177,9 @@ module _ (h : Head) (s : Session) (sound : Sound h s) (stamped : Stamped s) wher
           let forward = (taken_reading s.head f t e).0 in
           let last : after.head.last ≡ t = Frame.last_after_frame s f t ∙ ap (λ (o : FrameOutcome). Brought.last_with o t s.head.last) e in
           let place_stamps : (place : Place) → (stamp_of (held s place) ≤ stamp_of (held after place)) × (stamp_of (held after place) ≤ after.head.last.0) = λ place.
-          let is : held after place ≡ replaced (held s place) (frame_brings place f t (Returned.Frame (Ok tt))) =
-          frame_held h s sound f t place ∙ ap (λ (o : FrameOutcome). replaced (held s place) (frame_brings place f t (Returned.Frame o))) (Frame.outcome_of_frame s f t ∙ e) in
-          let new = new_stamp (held s place) t place (frame_brings place f t (Returned.Frame (Ok tt))) (brought_stamp f t place) (stamped.at_place place) forward in
+          let is : held after place ≡ replaced (held s place) (frame_brings (own_of h) place f t (Returned.Frame (Ok tt))) =
+          frame_held h s sound f t place ∙ ap (λ (o : FrameOutcome). replaced (held s place) (frame_brings (own_of h) place f t (Returned.Frame o))) (Frame.outcome_of_frame s f t ∙ e) in
+          let new = new_stamp (held s place) t place (frame_brings (own_of h) place f t (Returned.Frame (Ok tt))) (brought_stamp f t place) (stamped.at_place place) forward in
           (omega (arith, ap stamp_of is, new.0), omega (arith, ap stamp_of is, new.1, ap (λ (l : Instant). l.0) last)) in
           let of_record = record_stamps (state_taken s.head f t) t s.head.feedback stamped.latest forward in
           let latest = ap (λ (cache : FeedbackCache). record_stamp cache.latest) (Frame.record_after_frame s f t) in (

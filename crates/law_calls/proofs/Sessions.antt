@@ -2,8 +2,8 @@
 use Rattle.std.specs.Prelude.{None, Some, Ok, Err}
 use Prim.Native.Nat.{ℕ, ◌≤◌, ◌^◌}
 use mathlib.Core.Path.{◌≡◌, refl, sym, ap, ◌∙◌, subst}
-use mathlib.Core.Bool.{Bool, false, cond}
-use mathlib.Core.List.{List, [], ◌∷◌}
+use mathlib.Core.Bool.{Bool, true, false, cond}
+use mathlib.Core.List.{List, [], ◌∷◌, ◌++◌, nil≢cons, head-eq_of_cons-eq, tail-eq_of_cons-eq}
 use lib.ListN.{length}
 use Rattle.motor_core.specs.declared.bus.CanFrame.{CanFrame}
 use Rattle.motor_core.specs.declared.error.Refusal.{Refusal}
@@ -22,6 +22,8 @@ use Rattle.session.specs.Session.{patch}
 use Rattle.session.specs.declared.Head.{Head}
 use Rattle.session.specs.declared.Session.{Session}
 use Rattle.session_frame.proofs.Effects as Frame
+use Rattle.session_frame.proofs.Outcomes as Outcomes
+use Rattle.protocol_address.specs.Address.{own_frame}
 use Rattle.session_frame.proofs.Brought.{if_taken, of_register, slot_with}
 use Rattle.session_frame.specs.Frame.{FrameOutcome, frame_outcome, reply_of, ack_of, says, take_frame}
 use Rattle.session_answer.proofs.Effects.{answer_keeps, answer_last, answer_refused}
@@ -34,7 +36,7 @@ use Rattle.session_step.specs.declared.Told.TheVariants as Told
 use Rattle.session_call.specs.Step.{step}
 use Rattle.session_call.specs.declared.Call.{Call}
 use Rattle.session_call.specs.declared.Returned.TheVariants as Returned
-use Rattle.law_calls.specs.Calls.{events, session_after, Answered, IsRefusal}
+use Rattle.law_calls.specs.Calls.{Event, events, session_after, Answered, IsRefusal}
 use Rattle.law_calls.specs.Laws.{held}
 use Rattle.law_calls.specs.Places.{said_by, said, entry_of, frame_brings, brings, replaced, last_taken}
 
@@ -46,6 +48,10 @@ pub record Sound (h : Head) (s : Session) : Type 0 where
   pub replies : length s.replies ≡ 82
   pub acks : length s.acks ≡ 82
   pub last : s.head.last.0 ≤ 2 ^ 62
+
+-- this motor's frames
+abbrev pub own_of : Head → CanFrame → Bool
+own_of h = own_frame h.motor_id h.feedback_id
 
 module _ (h : Head) (s : Session) (sound : Sound h s) where
   -- ---- a start, an answer and a patch leave the caches
@@ -106,7 +112,7 @@ module _ (h : Head) (s : Session) (sound : Sound h s) where
     where
       go : (b : Bool) → slot_with (cond b (Some v) None) t slot ≡ replaced slot (cond b (Some (Held v t)) None)
       go false = refl
-      go Bool.true = refl
+      go true = refl
 
   says_reply : (t : Instant) (rid : ℕ) (slot : Entry) (f : CanFrame) → slot_with (of_register rid (reply_of (says s.head f))) t slot ≡ replaced slot (entry_of (Reply rid) t (said f))
   unfolding received
@@ -126,18 +132,29 @@ module _ (h : Head) (s : Session) (sound : Sound h s) where
       go Class.Ack = with_brought t _ _ slot
       go Class.Feedback = refl
 
-  pub frame_held : (f : CanFrame) (t : Instant) (place : Place) → held (take_frame s f t).session place ≡ replaced (held s place) (frame_brings place f t (Returned.Frame (take_frame s f t).told))
+  -- a frame that is taken is this motor's
+  pub taken_own : (f : CanFrame) (t : Instant) → frame_outcome s.head f t ≡ Ok tt → own_of h f ≡ true
+  taken_own f t e = (λ i. own_frame (sym sound.motor_id i) (sym sound.feedback_id i) f) ∙ Outcomes.taken_own s.head f t e
+
+  pub frame_held : (f : CanFrame) (t : Instant) (place : Place) → held (take_frame s f t).session place ≡ replaced (held s place) (frame_brings (own_of h) place f t (Returned.Frame (take_frame s f t).told))
   unfolding take_frame frame_brings
-  frame_held f t (Reply rid) = Frame.reply_after_frame s f t rid sound.replies ∙ go (frame_outcome s.head f t)
+  frame_held f t place = by_place place
     where
-      go : (o : FrameOutcome) → slot_with (of_register rid (if_taken o (reply_of (says s.head f)))) t (held s (Reply rid)) ≡ replaced (held s (Reply rid)) (frame_brings (Reply rid) f t (Returned.Frame o))
-      go (Ok taken) = says_reply t rid (held s (Reply rid)) f
-      go (Err n) = refl
-  frame_held f t (Ack rid) = Frame.ack_after_frame s f t rid sound.acks ∙ go (frame_outcome s.head f t)
-    where
-      go : (o : FrameOutcome) → slot_with (of_register rid (if_taken o (ack_of (says s.head f)))) t (held s (Ack rid)) ≡ replaced (held s (Ack rid)) (frame_brings (Ack rid) f t (Returned.Frame o))
-      go (Ok taken) = says_ack t rid (held s (Ack rid)) f
-      go (Err n) = refl
+      -- what it says counts, if it is taken
+      counts : (place : Place) → frame_outcome s.head f t ≡ Ok tt → replaced (held s place) (entry_of place t (said f)) ≡ replaced (held s place) (cond (own_of h f) (entry_of place t (said f)) None)
+      counts place e = ap (λ (own : Bool). replaced (held s place) (cond own (entry_of place t (said f)) None)) (sym (taken_own f t e))
+
+      by_reply : (rid : ℕ) (o : FrameOutcome) → frame_outcome s.head f t ≡ o → slot_with (of_register rid (if_taken o (reply_of (says s.head f)))) t (held s (Reply rid)) ≡ replaced (held s (Reply rid)) (frame_brings (own_of h) (Reply rid) f t (Returned.Frame o))
+      by_reply rid (Ok taken) e = says_reply t rid (held s (Reply rid)) f ∙ counts (Reply rid) e
+      by_reply rid (Err n) e = refl
+
+      by_ack : (rid : ℕ) (o : FrameOutcome) → frame_outcome s.head f t ≡ o → slot_with (of_register rid (if_taken o (ack_of (says s.head f)))) t (held s (Ack rid)) ≡ replaced (held s (Ack rid)) (frame_brings (own_of h) (Ack rid) f t (Returned.Frame o))
+      by_ack rid (Ok taken) e = says_ack t rid (held s (Ack rid)) f ∙ counts (Ack rid) e
+      by_ack rid (Err n) e = refl
+
+      by_place : (place : Place) → held (take_frame s f t).session place ≡ replaced (held s place) (frame_brings (own_of h) place f t (Returned.Frame (take_frame s f t).told))
+      by_place (Reply rid) = Frame.reply_after_frame s f t rid sound.replies ∙ by_reply rid (frame_outcome s.head f t) refl
+      by_place (Ack rid) = Frame.ack_after_frame s f t rid sound.acks ∙ by_ack rid (frame_outcome s.head f t) refl
 
 -- ---- over a list of calls
 
@@ -148,7 +165,7 @@ step_sound h s (Call.Answer a) sound = answer_sound h s sound a
 step_sound h s (Call.Frame f t) sound = frame_sound h s sound f t
 step_sound h s (Call.Patch status mos rotor) sound = patch_sound h s sound status mos rotor
 
-pub step_held : (h : Head) (s : Session) (c : Call) → Sound h s → (place : Place) → held (step s c).session place ≡ replaced (held s place) (brings place c (step s c).told)
+pub step_held : (h : Head) (s : Session) (c : Call) → Sound h s → (place : Place) → held (step s c).session place ≡ replaced (held s place) (brings (own_of h) place c (step s c).told)
 unfolding step brings
 step_held h s (Call.Start b) sound = start_held h s sound b
 step_held h s (Call.Answer a) sound = answer_held h s sound a
@@ -161,12 +178,30 @@ list_sound h [] s sound = sound
 list_sound h (c ∷ cs) s sound = list_sound h cs (step s c).session (step_sound h s c sound)
 
 -- what is held at a place is the last that was taken there
-pub list_held : (h : Head) (cs : List Call) (s : Session) → Sound h s → (place : Place) → held (session_after s cs) place ≡ last_taken place (held s place) (events s cs)
+pub list_held : (h : Head) (cs : List Call) (s : Session) → Sound h s → (place : Place) → held (session_after s cs) place ≡ last_taken (own_of h) place (held s place) (events s cs)
 unfolding session_after events last_taken
 list_held h [] s sound place = refl
 list_held h (c ∷ cs) s sound place =
     list_held h cs (step s c).session (step_sound h s c sound) place
-    ∙ ap (λ (e : Entry). last_taken place e (events (step s c).session cs)) (step_held h s c sound place)
+    ∙ ap (λ (e : Entry). last_taken (own_of h) place e (events (step s c).session cs)) (step_held h s c sound place)
+
+-- every frame that was taken is this motor's
+module _ (h : Head) (f : CanFrame) (t : Instant) (later : List Event) where
+  frame_takes_own : (s : Session) → Sound h s → (c : Call) → c ≡ Call.Frame f t → (step s c).told ≡ Returned.Frame (Ok tt) → own_of h f ≡ true
+  unfolding step
+  frame_takes_own s sound c is e = taken_own h s sound f t (sym (Frame.outcome_of_frame s f t) ∙ same (take_frame s f t).told (sym (ap (λ (x : Call). (step s x).told) is) ∙ e))
+    where
+      same : (o : FrameOutcome) → Returned.Frame o ≡ Returned.Frame (Ok tt) → o ≡ Ok tt
+      same o e = cc
+
+  pub list_takes_own : (cs : List Call) (s : Session) → Sound h s → (before : List Event) (v : Event) → events s cs ≡ before ++ (v ∷ later) → v.call ≡ Call.Frame f t → v.returned ≡ Returned.Frame (Ok tt) → own_of h f ≡ true
+  unfolding events
+  list_takes_own [] s sound [] v is call taken = absurd (nil≢cons is)
+  list_takes_own [] s sound (u ∷ us) v is call taken = absurd (nil≢cons is)
+  list_takes_own (c ∷ cs) s sound [] v is call taken =
+      let e = head-eq_of_cons-eq is in
+      frame_takes_own s sound c (ap (λ (x : Event). x.call) e ∙ call) (ap (λ (x : Event). x.returned) e ∙ taken)
+  list_takes_own (c ∷ cs) s sound (u ∷ us) v is call taken = list_takes_own cs (step s c).session (step_sound h s c sound) us v (tail-eq_of_cons-eq is) call taken
 
 -- ---- a refused call leaves the session that it got
 

@@ -1,5 +1,5 @@
 -- A fresh session: its ids are those that were given, the motor's is accepted, and nothing is held. Assumes nothing.
-use Rattle.std.specs.Prelude.{Result, Ok, Err}
+use Rattle.std.specs.Prelude.{None, Result, Ok, Err}
 use Prim.Native.Nat.{ℕ, ◌≤◌}
 use mathlib.Core.Path.{◌≡◌, refl, ap, subst}
 use mathlib.Core.Bool.{true}
@@ -16,7 +16,7 @@ use Rattle.model_list.specs.Models.{limits_by_name}
 use Rattle.state_cache.specs.declared.Entry.TheVariants.{Empty}
 use Rattle.state_cache.specs.declared.Place.{Place}
 use Rattle.state_cache.specs.declared.Place.TheVariants.{Reply, Ack}
-use Rattle.session.proofs.Fresh.{fresh_reply, fresh_ack, fresh_replies, fresh_acks, fresh_last, fresh_motor_id, fresh_feedback}
+use Rattle.session.proofs.Fresh.{fresh_reply, fresh_ack, fresh_replies, fresh_acks, fresh_last, fresh_motor_id, fresh_feedback_id, fresh_feedback}
 use Rattle.session.specs.Session.{fresh}
 use Rattle.session.specs.Start.{with_limits, from_limits, from_model}
 use Rattle.session.specs.declared.Session.{Session}
@@ -56,6 +56,9 @@ module _ (motor feedback : ℕ) (s : Session) where
   pub fresh_motor : Fresh motor feedback s → s.head.motor_id ≡ motor
   fresh_motor = by_fresh (λ x. x.head.motor_id ≡ motor) (fresh_motor_id motor feedback)
 
+  pub fresh_on : Fresh motor feedback s → s.head.feedback_id ≡ feedback
+  fresh_on = by_fresh (λ x. x.head.feedback_id ≡ feedback) (fresh_feedback_id motor feedback)
+
   pub fresh_sound : Fresh motor feedback s → Sound s.head s
   fresh_sound = by_fresh (λ x. Sound x.head x) (λ limits. record {
     motor_id = refl;
@@ -72,6 +75,9 @@ module _ (motor feedback : ℕ) (s : Session) where
       nothing_held : (limits : PvTLimits) (place : Place) → held (fresh motor feedback limits) place ≡ Empty
       nothing_held limits (Reply rid) = fresh_reply motor feedback limits rid
       nothing_held limits (Ack rid) = fresh_ack motor feedback limits rid
+
+  pub fresh_no_record : Fresh motor feedback s → s.head.feedback.latest ≡ None
+  fresh_no_record = by_fresh (λ x. x.head.feedback.latest ≡ None) (λ limits. ap (λ cache. cache.latest) (fresh_feedback motor feedback limits))
 
   pub fresh_stamped : Fresh motor feedback s → Stamped s
   fresh_stamped f = record {

@@ -2,6 +2,8 @@
 use Rattle.std.specs.Prelude.{Ok, Err}
 use mathlib.Core.Path.{◌≡◌, refl, sym, ap, ◌∙◌}
 use mathlib.Core.List.{List, [], ◌∷◌, ◌++◌, nil≢cons, head-eq_of_cons-eq, tail-eq_of_cons-eq}
+use mathlib.Core.Bool.{Bool}
+use Rattle.motor_core.specs.declared.bus.CanFrame.{CanFrame}
 use Rattle.run_want.specs.declared.Answer.{Answer}
 use Rattle.session.specs.declared.Session.{Session}
 use Rattle.session_answer.specs.Answer.{answer_run}
@@ -14,13 +16,13 @@ use Rattle.law_calls.specs.Laws.{IsCall}
 use Rattle.law_calls.specs.Places.{last_taken, Sees, seen_with}
 use Rattle.law_calls.specs.Turns.{Turn, turn, turn_in, turn_of, add_turn, turns}
 
-module _ (t : Turn) (later : List Turn) where
+module _ (own : CanFrame → Bool) (t : Turn) (later : List Turn) where
   abbrev AmongThem : Session → Sees → List Call → Type 0
-  AmongThem s sees cs = (earlier : List Turn) → turns sees (events s cs) ≡ earlier ++ (t ∷ later) → IsCall s sees cs earlier t
+  AmongThem s sees cs = (earlier : List Turn) → turns own sees (events s cs) ≡ earlier ++ (t ∷ later) → IsCall own s sees cs earlier t
 
   module _ (s : Session) (sees : Sees) (cs : List Call) where
     -- a call further on
-    further : (c : Call) (us earlier : List Turn) → add_turn sees s.head.feedback.latest c (step s c).told (open_want (step s c).session.run) us ≡ earlier → IsCall (step s c).session (seen_with sees (event s c)) cs us t → IsCall s sees (c ∷ cs) earlier t
+    further : (c : Call) (us earlier : List Turn) → add_turn sees s.head.feedback.latest c (step s c).told (open_want (step s c).session.run) us ≡ earlier → IsCall own (step s c).session (seen_with own sees (event s c)) cs us t → IsCall own s sees (c ∷ cs) earlier t
     unfolding session_after events last_taken turns
     further c us earlier adds is = record {
       before = c ∷ is.before;
@@ -32,7 +34,7 @@ module _ (t : Turn) (later : List Turn) where
     }
 
     -- this one
-    here : (a : Answer) (told : Answered) → (step s (Call.Answer a)).told ≡ Returned.Run told → turn a sees s.head.feedback.latest (open_want (step s (Call.Answer a)).session.run) told ≡ t → IsCall s sees (Call.Answer a ∷ cs) [] t
+    here : (a : Answer) (told : Answered) → (step s (Call.Answer a)).told ≡ Returned.Run told → turn a sees s.head.feedback.latest (open_want (step s (Call.Answer a)).session.run) told ≡ t → IsCall own s sees (Call.Answer a ∷ cs) [] t
     unfolding session_after events last_taken turns
     here a told gives is = record {
       before = [];
@@ -48,10 +50,10 @@ module _ (t : Turn) (later : List Turn) where
     unfolding add_turn turn_of
     adds a told us gives = ap (λ (r : Returned). turn_of a sees s.head.feedback.latest (open_want (step s (Call.Answer a)).session.run) r us) gives
 
-    module _ (rest : (c : Call) → AmongThem (step s c).session (seen_with sees (event s c)) cs) where
+    module _ (rest : (c : Call) → AmongThem (step s c).session (seen_with own sees (event s c)) cs) where
       answered : (a : Answer) (told : Answered) → (step s (Call.Answer a)).told ≡ Returned.Run told → (earlier : List Turn)
-          → turn_in a sees s.head.feedback.latest (open_want (step s (Call.Answer a)).session.run) told (turns (seen_with sees (event s (Call.Answer a))) (events (step s (Call.Answer a)).session cs)) ≡ earlier ++ (t ∷ later)
-          → IsCall s sees (Call.Answer a ∷ cs) earlier t
+          → turn_in a sees s.head.feedback.latest (open_want (step s (Call.Answer a)).session.run) told (turns own (seen_with own sees (event s (Call.Answer a))) (events (step s (Call.Answer a)).session cs)) ≡ earlier ++ (t ∷ later)
+          → IsCall own s sees (Call.Answer a ∷ cs) earlier t
       unfolding turn_in add_turn turn_of
       answered a (Ok (Told.Want want)) gives [] is = here a (Ok (Told.Want want)) gives (head-eq_of_cons-eq is)
       answered a (Ok (Told.Want want)) gives (u ∷ us) is = further (Call.Answer a) us (u ∷ us) (adds a (Ok (Told.Want want)) us gives ∙ ap (λ (x : Turn). x ∷ us) (head-eq_of_cons-eq is)) (rest (Call.Answer a) us (tail-eq_of_cons-eq is))
@@ -74,4 +76,4 @@ module _ (t : Turn) (later : List Turn) where
   unfolding turns events
   turn_calls [] s sees [] is = absurd (nil≢cons is)
   turn_calls [] s sees (u ∷ us) is = absurd (nil≢cons is)
-  turn_calls (c ∷ cs) s sees earlier is = by_call s sees cs (λ c. turn_calls cs (step s c).session (seen_with sees (event s c))) c earlier is
+  turn_calls (c ∷ cs) s sees earlier is = by_call s sees cs (λ c. turn_calls cs (step s c).session (seen_with own sees (event s c))) c earlier is

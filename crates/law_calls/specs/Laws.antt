@@ -1,9 +1,10 @@
 -- What holds of every list of calls on a session. Statements; `laws` in proofs/Laws.antt has their proofs.
-use Rattle.std.specs.Prelude.{ℕ, ◌+◌, ◌≤◌, ◌<◌, ◌^◌, length, ◌≡◌, Bool, List, [], ◌∷◌, ◌++◌, None, Option, Some, Ok, Err, option_map}
+use Rattle.std.specs.Prelude.{ℕ, ◌+◌, ◌≤◌, ◌<◌, ◌^◌, length, ◌≡◌, Bool, true, List, [], ◌∷◌, ◌++◌, None, Option, Some, Ok, Err, option_map}
 use Rattle.motor_core.specs.declared.bus.CanFrame.{CanFrame}
 use Rattle.motor_core.specs.declared.error.Refusal.TheVariants.{RunOpen}
 use Rattle.time.specs.declared.Instant.{Instant}
 use Rattle.registers.specs.declared.RegisterValue.{RegisterValue}
+use Rattle.protocol_address.specs.Address.{own_frame}
 use Rattle.state_cache.specs.declared.Entry.{Entry}
 use Rattle.state_cache.specs.declared.Entry.TheVariants.{Empty, Held}
 use Rattle.state_cache.specs.declared.Place.{Place}
@@ -59,30 +60,33 @@ Leaves (Call.Patch status mos rotor) s after = PatchLeaves status mos rotor s af
 abbrev pub held : Session → Sees
 held s place = entry_at s.replies s.acks (Some place)
 
-unfoldable pub NoneTaken : Place → List Event → Type 0
-NoneTaken place [] = Unit {0}
-NoneTaken place (v ∷ vs) = (brings place v.call v.returned ≡ None) × NoneTaken place vs
+-- by the frames that are the motor's, as `own` says
+module _ (own : CanFrame → Bool) where
+  unfoldable pub NoneTaken : Place → List Event → Type 0
+  NoneTaken place [] = Unit {0}
+  NoneTaken place (v ∷ vs) = (brings own place v.call v.returned ≡ None) × NoneTaken place vs
 
--- a frame that was taken says this value at this place, with this reading, and none of that place was taken after it
-pub record Taken (place : Place) (value : RegisterValue) (stamp : Instant) (vs : List Event) : Type 0 where
-  pub before : List Event
-  pub event : Event
-  pub later : List Event
-  pub frame : CanFrame
-  pub whole : vs ≡ before ++ (event ∷ later)
-  pub call : event.call ≡ Call.Frame frame stamp
-  pub taken : event.returned ≡ Returned.Frame (Ok tt)
-  pub says : said frame ≡ Some (place, value)
-  pub is_last : NoneTaken place later
+  -- a frame of the motor that was taken says this value at this place, with this reading, and none of that place was taken after it
+  pub record Taken (place : Place) (value : RegisterValue) (stamp : Instant) (vs : List Event) : Type 0 where
+    pub before : List Event
+    pub event : Event
+    pub later : List Event
+    pub frame : CanFrame
+    pub whole : vs ≡ before ++ (event ∷ later)
+    pub call : event.call ≡ Call.Frame frame stamp
+    pub taken : event.returned ≡ Returned.Frame (Ok tt)
+    pub is_own : own frame ≡ true
+    pub says : said frame ≡ Some (place, value)
+    pub is_last : NoneTaken place later
 
--- the call that a turn is, among the calls from the session `s` on: the turns before it are those of the calls before it, and it sees what was taken by these
-pub record IsCall (s : Session) (sees : Sees) (cs : List Call) (earlier : List Turn) (t : Turn) : Type 0 where
-  pub before : List Call
-  pub later : List Call
-  pub whole : cs ≡ before ++ (Call.Answer t.answer ∷ later)
-  pub turns_before : turns sees (events s before) ≡ earlier
-  pub gave : event (session_after s before) (Call.Answer t.answer) ≡ record { call = Call.Answer t.answer; latest = t.latest; returned = Returned.Run t.gave.told; wants = t.gave.wants }
-  pub saw : (place : Place) → t.sees place ≡ last_taken place (sees place) (events s before)
+  -- the call that a turn is, among the calls from the session `s` on: the turns before it are those of the calls before it, and it sees what was taken by these
+  pub record IsCall (s : Session) (sees : Sees) (cs : List Call) (earlier : List Turn) (t : Turn) : Type 0 where
+    pub before : List Call
+    pub later : List Call
+    pub whole : cs ≡ before ++ (Call.Answer t.answer ∷ later)
+    pub turns_before : turns own sees (events s before) ≡ earlier
+    pub gave : event (session_after s before) (Call.Answer t.answer) ≡ record { call = Call.Answer t.answer; latest = t.latest; returned = Returned.Run t.gave.told; wants = t.gave.wants }
+    pub saw : (place : Place) → t.sees place ≡ last_taken own place (sees place) (events s before)
 
 -- ---- readings
 
@@ -169,20 +173,23 @@ pub record Laws : Type 0 where
   -- one list after another
   pub sessions_joined : (s : Session) (bs cs : List Call) → session_after s (bs ++ cs) ≡ session_after (session_after s bs) cs
   pub events_joined : (s : Session) (bs cs : List Call) → events s (bs ++ cs) ≡ events s bs ++ events (session_after s bs) cs
-  pub places_joined : (place : Place) (e : Entry) (us vs : List Event) → last_taken place e (us ++ vs) ≡ last_taken place (last_taken place e us) vs
-  pub turns_joined : (sees : Sees) (us vs : List Event) → result_of (turns sees us) ≡ None → turns sees (us ++ vs) ≡ turns sees us ++ turns (seen_after sees us) vs
-  pub turns_over : (sees : Sees) (us vs : List Event) (r : RunResult) → result_of (turns sees us) ≡ Some r → turns sees (us ++ vs) ≡ turns sees us
+  pub places_joined : (own : CanFrame → Bool) (place : Place) (e : Entry) (us vs : List Event) → last_taken own place e (us ++ vs) ≡ last_taken own place (last_taken own place e us) vs
+  pub turns_joined : (own : CanFrame → Bool) (sees : Sees) (us vs : List Event) → result_of (turns own sees us) ≡ None → turns own sees (us ++ vs) ≡ turns own sees us ++ turns own (seen_after own sees us) vs
+  pub turns_over : (own : CanFrame → Bool) (sees : Sees) (us vs : List Event) (r : RunResult) → result_of (turns own sees us) ≡ Some r → turns own sees (us ++ vs) ≡ turns own sees us
   pub counts_joined : (f : Gave → Bool) (ts us : List Turn) → count f (gaves (ts ++ us)) ≡ count f (gaves ts) + count f (gaves us)
-  -- what a session holds is what was taken last, from a frame that is in the list
-  pub holds_last : (motor feedback : ℕ) (s : Session) → Fresh motor feedback s → (cs : List Call) (place : Place) → held (session_after s cs) place ≡ last_taken place Empty (events s cs)
-  pub origin : (cs : List Event) (place : Place) (value : RegisterValue) (stamp : Instant) → last_taken place Empty cs ≡ Held value stamp → Taken place value stamp cs
+  -- every frame that was taken is this motor's
+  pub takes_own : (motor feedback : ℕ) (s : Session) → Fresh motor feedback s → (cs : List Call) (before later : List Event) (v : Event) (f : CanFrame) (reading : Instant) → events s cs ≡ before ++ (v ∷ later) →
+      v.call ≡ Call.Frame f reading → v.returned ≡ Returned.Frame (Ok tt) → own_frame motor feedback f ≡ true
+  -- what a session holds is what was taken last, from a frame of this motor that is in the list
+  pub holds_last : (motor feedback : ℕ) (s : Session) → Fresh motor feedback s → (cs : List Call) (place : Place) → held (session_after s cs) place ≡ last_taken (own_frame motor feedback) place Empty (events s cs)
+  pub origin : (own : CanFrame → Bool) (vs : List Event) (place : Place) (value : RegisterValue) (stamp : Instant) → last_taken own place Empty vs ≡ Held value stamp → Taken own place value stamp vs
   -- a turn is a call in the list, and sees what was taken before it
-  pub turn_calls : (s : Session) (sees : Sees) (cs : List Call) (earlier : List Turn) (t : Turn) (later : List Turn) → turns sees (events s cs) ≡ earlier ++ (t ∷ later) → IsCall s sees cs earlier t
+  pub turn_calls : (own : CanFrame → Bool) (s : Session) (sees : Sees) (cs : List Call) (earlier : List Turn) (t : Turn) (later : List Turn) → turns own sees (events s cs) ≡ earlier ++ (t ∷ later) → IsCall own s sees cs earlier t
   -- so what a turn of a run sees of a register's replies or acks came by a frame among the calls before it, from the list's first on
-  pub turn_sees : (s₀ : Session) (before : List Call) (start : Start) (after : List Call) (earlier : List Turn) (t : Turn) →
+  pub turn_sees : (own : CanFrame → Bool) (s₀ : Session) (before : List Call) (start : Start) (after : List Call) (earlier : List Turn) (t : Turn) →
       (let s' = (step (session_after s₀ before) (Call.Start start)).session in
-      (call : IsCall s' (seen_after nothing (events s₀ before)) after earlier t) (place : Place) (value : RegisterValue) (stamp : Instant) → t.sees place ≡ Held value stamp →
-      Taken place value stamp (events s₀ (before ++ (Call.Start start ∷ call.before))))
+      (call : IsCall own s' (seen_after own nothing (events s₀ before)) after earlier t) (place : Place) (value : RegisterValue) (stamp : Instant) → t.sees place ≡ Held value stamp →
+      Taken own place value stamp (events s₀ (before ++ (Call.Start start ∷ call.before))))
   -- accepted readings never fall, the last of them is the session's, and stamps are no later and never fall either
   pub readings : (s : Session) (cs : List Call) → Rising s.head.last (events s cs) × ((session_after s cs).head.last ≡ last_reading s.head.last (events s cs))
   pub bounded : (motor feedback : ℕ) (s : Session) → Fresh motor feedback s → (cs : List Call) →
@@ -198,5 +205,5 @@ pub record Laws : Type 0 where
       let s' = (step s (Call.Start start)).session in
       (w : Answered) → began.returned ≡ Returned.Run w → Accepted w →
       OfRun s start (record { told = w; wants = began.wants })
-      (turns_after w (seen_after nothing (events s₀ before)) (events s' after))
+      (turns_after (own_frame motor feedback) w (seen_after (own_frame motor feedback) nothing (events s₀ before)) (events s' after))
       (session_after s' after))

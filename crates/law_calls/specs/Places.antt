@@ -35,27 +35,9 @@ abbrev pub entry_of : Place → Instant → Option (Place × RegisterValue) → 
 entry_of place reading None = None
 entry_of place reading (Some x) = cond (same_place place x.0) (Some (Held x.1 reading)) None
 
--- a frame that was refused brings nothing, nor does another call
-unfoldable pub frame_brings : Place → CanFrame → Instant → Returned → Option Entry
-frame_brings place f reading (Returned.Run told) = None
-frame_brings place f reading (Returned.Frame (Ok taken)) = entry_of place reading (said f)
-frame_brings place f reading (Returned.Frame (Err refusal)) = None
-frame_brings place f reading (Returned.Patch done) = None
-
-unfoldable pub brings : Place → Call → Returned → Option Entry
-brings place (Call.Start start) returned = None
-brings place (Call.Answer answer) returned = None
-brings place (Call.Frame f reading) returned = frame_brings place f reading returned
-brings place (Call.Patch status mos rotor) returned = None
-
 abbrev pub replaced : Entry → Option Entry → Entry
 replaced e None = e
 replaced e (Some brought) = brought
-
--- what is the last at a place after these calls, where `e` was the last before them
-unfoldable pub last_taken : Place → Entry → List Event → Entry
-last_taken place e [] = e
-last_taken place e (v ∷ vs) = last_taken place (replaced e (brings place v.call v.returned)) vs
 
 -- what is seen at each place: nothing at first, and then as each call has it
 abbrev pub Sees : Type 0
@@ -64,8 +46,28 @@ Sees = Place → Entry
 abbrev pub nothing : Sees
 nothing place = Empty
 
-abbrev pub seen_after : Sees → List Event → Sees
-seen_after sees vs place = last_taken place (sees place) vs
+-- by the frames that are the motor's, as `own` says
+module _ (own : CanFrame → Bool) where
+  -- a frame that is not the motor's or was refused brings nothing, nor does another call
+  unfoldable pub frame_brings : Place → CanFrame → Instant → Returned → Option Entry
+  frame_brings place f reading (Returned.Run told) = None
+  frame_brings place f reading (Returned.Frame (Ok taken)) = cond (own f) (entry_of place reading (said f)) None
+  frame_brings place f reading (Returned.Frame (Err refusal)) = None
+  frame_brings place f reading (Returned.Patch done) = None
 
-abbrev pub seen_with : Sees → Event → Sees
-seen_with sees v place = replaced (sees place) (brings place v.call v.returned)
+  unfoldable pub brings : Place → Call → Returned → Option Entry
+  brings place (Call.Start start) returned = None
+  brings place (Call.Answer answer) returned = None
+  brings place (Call.Frame f reading) returned = frame_brings place f reading returned
+  brings place (Call.Patch status mos rotor) returned = None
+
+  -- what is the last at a place after these calls, where `e` was the last before them
+  unfoldable pub last_taken : Place → Entry → List Event → Entry
+  last_taken place e [] = e
+  last_taken place e (v ∷ vs) = last_taken place (replaced e (brings place v.call v.returned)) vs
+
+  abbrev pub seen_after : Sees → List Event → Sees
+  seen_after sees vs place = last_taken place (sees place) vs
+
+  abbrev pub seen_with : Sees → Event → Sees
+  seen_with sees v place = replaced (sees place) (brings place v.call v.returned)

@@ -1,5 +1,6 @@
 -- A run in a list of calls: its accepted start and its accepted answers, up to the result; what it wants, counted; and its readings. Definitions only.
 use Rattle.std.specs.Prelude.{ℕ, ◌+◌, ◌≤◌, ◌≡◌, Bool, true, false, cond, List, [], ◌∷◌, None, Option, Some, Ok, Err}
+use Rattle.motor_core.specs.declared.bus.CanFrame.{CanFrame}
 use Rattle.time.specs.declared.Duration.{Duration}
 use Rattle.time.specs.declared.Instant.{Instant}
 use Rattle.state_feedback.specs.declared.FeedbackSnapshot.{FeedbackSnapshot}
@@ -48,16 +49,18 @@ add_turn sees latest (Call.Answer a) returned w ts = turn_of a sees latest w ret
 add_turn sees latest (Call.Frame f reading) returned w ts = ts
 add_turn sees latest (Call.Patch status mos rotor) returned w ts = ts
 
--- its turns among the calls after its start; `sees` is what was seen so far
-unfoldable pub turns : Sees → List Event → List Turn
-turns sees [] = []
-turns sees (v ∷ vs) = add_turn sees v.latest v.call v.returned v.wants (turns (seen_with sees v) vs)
+-- by the frames that are the motor's, as `own` says
+module _ (own : CanFrame → Bool) where
+  -- its turns among the calls after its start; `sees` is what was seen so far
+  unfoldable pub turns : Sees → List Event → List Turn
+  turns sees [] = []
+  turns sees (v ∷ vs) = add_turn sees v.latest v.call v.returned v.wants (turns (seen_with own sees v) vs)
 
--- none where the start gave the result
-unfoldable pub turns_after : Answered → Sees → List Event → List Turn
-turns_after (Ok (Told.Want want)) sees vs = turns sees vs
-turns_after (Ok (Told.Result r)) sees vs = []
-turns_after (Err refusal) sees vs = turns sees vs
+  -- none where the start gave the result
+  unfoldable pub turns_after : Answered → Sees → List Event → List Turn
+  turns_after (Ok (Told.Want want)) sees vs = turns sees vs
+  turns_after (Ok (Told.Result r)) sees vs = []
+  turns_after (Err refusal) sees vs = turns sees vs
 
 unfoldable pub result_in : Answered → Option RunResult → Option RunResult
 result_in (Ok (Told.Want want)) later = later

@@ -1,10 +1,22 @@
--- Calls as worked lists have them. Definitions only.
-use Rattle.std.specs.Prelude.{ℕ, false, List, [], ◌∷◌, Ok}
+-- Sessions and calls as worked lists have them. Definitions only.
+use Rattle.std.specs.Prelude.{ℕ, false, List, [], ◌∷◌, Ok, pos}
+use Rattle.std.specs.Float.{fin}
+use Rattle.motor_core.specs.Model.{from_maxima}
 use Rattle.motor_core.specs.declared.bus.CanFrame.{CanFrame}
+use Rattle.motor_core.specs.declared.model.Maxima.{Maxima}
 use Rattle.time.specs.declared.Duration.{Duration}
 use Rattle.run_want.specs.declared.Answer.TheVariants.{Reading, Send, Slept}
+use Rattle.session.specs.Session.{fresh}
+use Rattle.session.specs.declared.Session.{Session}
 use Rattle.session_begin.specs.declared.Start.TheVariants.{EnsureControlMode}
 use Rattle.session_call.specs.declared.Call.{Call}
+
+-- a fresh session with limits of 1
+abbrev pub maxima : Maxima
+maxima = record { p_max = fin false 1 (pos 0); v_max = fin false 1 (pos 0); t_max = fin false 1 (pos 0) }
+
+abbrev pub session : ℕ → ℕ → Session
+session motor feedback = fresh motor feedback (from_maxima maxima)
 
 abbrev pub switch : ℕ → Duration → Call
 switch mode timeout = Call.Start (EnsureControlMode mode timeout)

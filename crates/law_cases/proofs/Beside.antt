@@ -12,7 +12,7 @@ use Rattle.protocol_setpoint.specs.Setpoint.{mit_cmd, mit_data, force_pos_data, 
 use Rattle.protocol_hold.specs.Mode.{control_mode, mode_number}
 use Rattle.protocol_hold.specs.declared.ControlMode.{ControlMode}
 use Rattle.protocol_hold.specs.declared.ControlMode.TheVariants.{Mit, PosVel, Vel, ForcePos}
-use Rattle.protocol_address.specs.Address.{frame_accepted}
+use Rattle.protocol_address.specs.Address.{frame_accepted, own_frame}
 use Rattle.protocol_feedback.specs.Feedback.{feedback_of}
 use Rattle.protocol_received.specs.Received.{class, received}
 use Rattle.protocol_status.specs.Status.{status_name}
@@ -27,7 +27,7 @@ mode_back Vel = refl
 mode_back ForcePos = refl
 
 pub beside : Beside
-unfolding round div of_int neg sub mul add to_unsigned clip float_to_uint packed_onto little_endian mit_cmd mit_data frame_for force_pos_data scaled registers elem known uint_to_float frame_accepted class feedback_of received status_name fresh take_frame limits_of limit_accepted le
+unfolding round div of_int neg sub mul add to_unsigned clip float_to_uint packed_onto little_endian mit_cmd mit_data frame_for force_pos_data scaled registers elem known uint_to_float frame_accepted own_frame class feedback_of received status_name fresh take_frame limits_of limit_accepted le
 beside = record {
   second_stored = refl;
   reading_back = refl;

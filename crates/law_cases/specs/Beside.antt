@@ -22,16 +22,16 @@ use Rattle.motor_core.specs.Error.{number}
 use Rattle.motor_core.specs.declared.error.Refusal.{Refusal}
 use Rattle.motor_core.specs.declared.model.Maxima.{Maxima}
 
--- motor 13, status 9
+-- motor 1, status 9
 abbrev pub two_halves : List ℕ
-two_halves = frame 0x9D 0x00 0x00 0x00 0x00 0x00 0x1E 0x28
+two_halves = frame 0x91 0x00 0x00 0x00 0x00 0x00 0x1E 0x28
 
 abbrev pub at : ℕ → Instant
 at reading = record { 0 = reading }
 
 abbrev pub second_record : FeedbackSnapshot
 second_record = record {
-  state = record { can_id = 13; arbitration_id = 0x11; status_code = 9; status_name = UnderVoltage; pos = neg p; vel = neg v; torq = neg t; t_mos = float 30; t_rotor = float 40 };
+  state = record { can_id = 1; arbitration_id = 0x11; status_code = 9; status_name = UnderVoltage; pos = neg p; vel = neg v; torq = neg t; t_mos = float 30; t_rotor = float 40 };
   received_at = at 7;
   sequence = 2;
 }

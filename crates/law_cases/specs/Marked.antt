@@ -1,5 +1,5 @@
 -- The bench cases that are to be proved, as equations of the definitions: model 4310, motor 1. `proofs/Marked.antt` has their proof.
-use Rattle.std.specs.Prelude.{ℕ, ◌≤◌, ◌^◌, ◌≡◌, false, List, [], ◌∷◌, Float, Some, Ok}
+use Rattle.std.specs.Prelude.{ℕ, ◌≤◌, ◌^◌, ◌≡◌, false, List, [], ◌∷◌, Float, Some, Ok, Err}
 use Rattle.std.specs.Float.{nan, binary32}
 use Rattle.std.specs.Float.Ieee.{neg, div}
 use Rattle.motor_core.specs.Model.{from_maxima}
@@ -7,6 +7,7 @@ use Rattle.motor_core.specs.declared.model.Maxima.{Maxima}
 use Rattle.motor_core.specs.Name.{name_of}
 use Rattle.time.specs.Time.{millis}
 use Rattle.motor_core.specs.declared.bus.CanFrame.{CanFrame}
+use Rattle.motor_core.specs.declared.error.Refusal.TheVariants.{ForeignFrame}
 use Rattle.time.specs.declared.Instant.{Instant}
 use Rattle.model_match.specs.Matching.{match_models}
 use Rattle.model_damiao.specs.Damiao.{damiao_models, list_of}
@@ -30,7 +31,7 @@ use Rattle.state_cache.specs.declared.Entry.TheVariants.{Held}
 use Rattle.switch_time.specs.TimeLeft.{mode_read_cap}
 use Rattle.session.specs.Session.{fresh}
 use Rattle.session.specs.declared.Session.{Session}
-use Rattle.session_frame.specs.Frame.{take_frame}
+use Rattle.session_frame.specs.Frame.{frame_outcome, take_frame}
 use Rattle.text.specs.Ascii.{ascii}
 use Rattle.model_list.specs.Models.{limits_by_name}
 use Rattle.session.specs.Start.{from_model}
@@ -68,6 +69,10 @@ minimum = record { can_id = 1; status_code = 1; pos = neg p; vel = neg v; torq =
 abbrev pub ten_is_one : List ℕ
 ten_is_one = frame 0x11 0x0F 0x33 0x0A 0x01 0x00 0x00 0x00
 
+-- the same from motor 1: its id in the first two bytes
+abbrev pub own_ten_is_one : List ℕ
+own_ten_is_one = frame 0x01 0x00 0x33 0x0A 0x01 0x00 0x00 0x00
+
 -- whole, on the feedback id 0x11 of a fresh session
 abbrev pub on_bus : List ℕ → CanFrame
 on_bus bytes = record { arbitration_id = 0x11; «data» = bytes; dlc = 8; is_extended = false }
@@ -97,7 +102,9 @@ pub record Marked : Type 0 where
   pub feedback_status : status_name minimum.status_code ≡ Enabled
   pub feedback_stored : (reading : Instant) → reading.0 ≤ 2 ^ 62 → (take_frame session (on_bus at_minimum) reading).session.head.feedback ≡ record { latest = Some (first_record reading); sequence = 1 }
   pub register_ten : received (from_maxima maxima) ten_is_one ≡ Receive.Reply 10 (UInt32 1)
-  pub register_ten_stored : (reading : Instant) → reading.0 ≤ 2 ^ 62 → slot_of (take_frame session (on_bus ten_is_one) reading).session.replies 10 ≡ Held (UInt32 1) reading
+  pub register_ten_stored : (reading : Instant) → reading.0 ≤ 2 ^ 62 → slot_of (take_frame session (on_bus own_ten_is_one) reading).session.replies 10 ≡ Held (UInt32 1) reading
+  -- T-03: as a frame it has 0x0F in the second byte of its motor's id, so it is not motor 1's
+  pub register_ten_refused : (reading : Instant) → reading.0 ≤ 2 ^ 62 → frame_outcome session.head (on_bus ten_is_one) reading ≡ Err ForeignFrame
   pub d1_too_high : class_of (frame 0x11 0x10 0x33 0x0A 0x01 0x00 0x00 0x00) ≡ Class.Feedback
   pub d3_unknown : class_of (frame 0x11 0x0F 0x33 0x25 0x01 0x00 0x00 0x00) ≡ Class.Feedback
   pub read_ten : register_read_cmd 1 10 ≡ Ok (command 0x7FF 0x0100_330A_0000_0000)

@@ -29,6 +29,7 @@ use Rattle.law_runs.specs.Systems.{running}
 use Rattle.law_runs.proofs.Runs.{bounds}
 use Rattle.law_calls.specs.Calls.{event, events, session_after}
 use Rattle.law_calls.specs.Laws.{Alone, AsWanted, AtMost}
+use Rattle.protocol_address.specs.Address.{own_frame}
 use Rattle.law_calls.specs.Places.{nothing, seen_after}
 use Rattle.law_calls.specs.Ran.{gives}
 use Rattle.law_calls.specs.Ran as Run
@@ -136,7 +137,8 @@ each_switch P holds motor feedback s₀ fresh before n timeout after w e accepte
     let run = laws.runs motor feedback s₀ fresh before (EnsureControlMode n timeout) after w e accepted in
     let x = switching n timeout run.machine run.opened in
     let end = session_after (step s start).session after in
-    let ts = turns_after w (seen_after nothing (events s₀ before)) (events (step s start).session after) in
+    let own = own_frame motor feedback in
+    let ts = turns_after own w (seen_after own nothing (events s₀ before)) (events (step s start).session after) in
     let began : Gave = record { told = w; wants = (event s start).wants } in
     let first : began ≡ gave_want s.head x.mode timeout Starting = run.wants ∙ ap (gives s.head) (sym x.opens) in
     let id : s.head.motor_id ≡ motor = (list_sound s₀.head before s₀ (fresh_sound motor feedback s₀ fresh)).motor_id ∙ fresh_motor motor feedback s₀ fresh in
@@ -156,5 +158,6 @@ pub claim : Claim
 claim = record {
   refusals = refused_leaves;
   shares = λ motor accepted mode. (Count.hold_shares motor accepted mode, λ s. Count.shared_id motor mode s.0 s.1);
+  takes_own = laws.takes_own;
   switches = each_switch OfSwitch (λ h mode timeout ts end x. bounded h x.accepted mode timeout ts end h.last x.steps x.alone x.as_wanted x.at_most);
 }

@@ -1,6 +1,7 @@
 -- Demand 3: what holds of every mode switch in every list of calls on one session: the last paragraph of document 01's 'The runs'. It stands on `law_calls`: `Calls` has the list, `Places` the last replies and acks that were taken, `Turns` a run's turns with its wants, its result and its sleeps. It speaks of the calls and of what they returned; the run's definition is asked only for what it wants. Definitions only.
 use Rattle.std.specs.Prelude.{ℕ, ◌/◌, ◌^◌, ◌≤◌, ◌<◌, ◌≡◌, Bool, true, false, not, ◌&&◌, ◌||◌, ◌↔◌, List, [], ◌∷◌, ◌++◌, eqb, length, None, Option, Some, Ok, Err}
 use Rattle.motor_core.specs.Bus.{motor_id_accepted}
+use Rattle.motor_core.specs.declared.bus.CanFrame.{CanFrame}
 use Rattle.motor_core.specs.declared.error.Refusal.TheVariants.{RunOpen}
 use Rattle.time.specs.declared.Instant.{Instant}
 use Rattle.time.specs.declared.Duration.{Duration}
@@ -11,6 +12,7 @@ use Rattle.protocol_hold.specs.declared.ControlMode.{ControlMode}
 use Rattle.protocol_hold.specs.declared.ControlMode.TheVariants.{ForcePos}
 use Rattle.state_cache.specs.declared.Entry.TheVariants.{Held}
 use Rattle.state_cache.specs.declared.Place.TheVariants.{Reply}
+use Rattle.protocol_address.specs.Address.{own_frame}
 use Rattle.run_want.specs.declared.Answer.{Answer}
 use Rattle.run_want.specs.declared.message.Message.{Message}
 use Rattle.run_want.specs.declared.message.Message.TheVariants.{ReadRegister, WriteRegister, RequestFeedback, Disable, StoreParams, Setpoint}
@@ -22,7 +24,7 @@ use Rattle.session_begin.specs.declared.Start.TheVariants.{EnsureControlMode}
 use Rattle.session_call.specs.Step.{step}
 use Rattle.session_call.specs.declared.Call.{Call}
 use Rattle.session_call.specs.declared.Returned.TheVariants as Returned
-use Rattle.law_calls.specs.Calls.{Fresh, event, events, session_after, Answered, Accepted, IsRefusal}
+use Rattle.law_calls.specs.Calls.{Fresh, Event, event, events, session_after, Answered, Accepted, IsRefusal}
 use Rattle.law_calls.specs.Places.{nothing, seen_after}
 use Rattle.law_calls.specs.Turns.{Gave, Turn, turns_after, result, gave_after, gaves, count, a_want, send_to, a_send, a_sleep, wants_send, wants_sleep, any, AllMove, reading_after}
 
@@ -112,15 +114,16 @@ pub record OfSwitch (motor mode : ℕ) (first : Gave) (ts : List Turn) (end : Se
   -- done exactly if the last read of register 10 found the mode
   pub success : (r : RunResult) → result first ts ≡ Some r → (r ≡ Ok Done) ↔ Found motor mode None first ts
 
--- each switch, by its accepted start, in each list of calls from a fresh session
+-- each switch, by its accepted start, in each list of calls from a fresh session. Only this motor's frames count: of the replies of register 10, a turn sees the one in the last frame that was taken before its call, is this motor's and is such a reply
 abbrev pub EachSwitch : (ℕ → ℕ → Gave → List Turn → Session → Type 0) → Type 0
 EachSwitch P = (motor feedback : ℕ) (s₀ : Session) → Fresh motor feedback s₀ → (before : List Call) (mode : ℕ) (timeout : Duration) (after : List Call) →
-    (let s = session_after s₀ before in
+    (let own = own_frame motor feedback in
+    let s = session_after s₀ before in
     let began = event s (Call.Start (EnsureControlMode mode timeout)) in
     let s' = (step s (Call.Start (EnsureControlMode mode timeout))).session in
     (w : Answered) → began.returned ≡ Returned.Run w → Accepted w →
     P motor mode (record { told = w; wants = began.wants })
-    (turns_after w (seen_after nothing (events s₀ before)) (events s' after))
+    (turns_after own w (seen_after own nothing (events s₀ before)) (events s' after))
     (session_after s' after))
 
 pub record Claim : Type 0 where
@@ -128,4 +131,7 @@ pub record Claim : Type 0 where
   pub refusals : (s : Session) (c : Call) → IsRefusal (step s c).told → (step s c).session ≡ s
   -- an accepted motor id puts a mode's setpoints on 0x7FF exactly if it is the one that shares it and the mode is force-position
   pub shares : (motor : ℕ) → motor_id_accepted motor ≡ true → (mode : ControlMode) → (hold_id motor mode ≡ request_id) ↔ ((shares_7ff motor ≡ true) × (mode ≡ ForcePos))
+  -- every frame that a call in a list took is this motor's
+  pub takes_own : (motor feedback : ℕ) (s : Session) → Fresh motor feedback s → (cs : List Call) (before later : List Event) (v : Event) (f : CanFrame) (reading : Instant) → events s cs ≡ before ++ (v ∷ later) →
+      v.call ≡ Call.Frame f reading → v.returned ≡ Returned.Frame (Ok tt) → own_frame motor feedback f ≡ true
   pub switches : EachSwitch OfSwitch

@@ -1,7 +1,7 @@
 -- The numbers of the refusals: 1 to 12 are document 01's 'Turned back', those above are document 02's. Definitions only.
 use Rattle.std.specs.Prelude.{ℕ}
 use Rattle.motor_core.specs.declared.error.Refusal.{Refusal}
-use Rattle.motor_core.specs.declared.error.Refusal.TheVariants.{Limit, MotorId, Reading, Register, ReadOnly, ValueType, Timeout, RunOpen, NotWanted, Mode, Query, Model, RegisterFrame, FieldWidth}
+use Rattle.motor_core.specs.declared.error.Refusal.TheVariants.{Limit, MotorId, Reading, Register, ReadOnly, ValueType, Timeout, RunOpen, NotWanted, Mode, Query, Model, RegisterFrame, FieldWidth, ForeignFrame}
 
 abbrev pub number : Refusal → ℕ
 -- a limit that is not accepted
@@ -32,3 +32,5 @@ number Model = 12
 number RegisterFrame = 13
 -- a field that is too wide
 number FieldWidth = 14
+-- a frame that is not this motor's
+number ForeignFrame = 15

@@ -18,6 +18,7 @@ pub enum Refusal {
     Model = 12,
     RegisterFrame = 13,
     FieldWidth = 14,
+    ForeignFrame = 15,
 }
 
 impl From<Refusal> for u8 {

@@ -16,7 +16,7 @@ use Rattle.registers.proofs.Values.{bits_of_value}
 use Rattle.protocol_frame.specs.Layout.{byte, packed, packed_onto, little_endian, addressed, d, data_byte, data_bytes}
 use Rattle.protocol_frame.proofs.Packing.{addressed_bytes, eight_bytes}
 use Rattle.protocol_feedback.specs.Feedback.{feedback_of}
-use Rattle.protocol_received.specs.Received.{class, class_of, word, register_value, by_class, received}
+use Rattle.protocol_received.specs.Received.{class, class_of, id_of, word, register_value, by_class, received}
 use Rattle.protocol_received.specs.declared.FrameClass.{FrameClass}
 use Rattle.protocol_received.specs.declared.FrameClass.TheVariants as Class
 use Rattle.protocol_received.specs.declared.Received.{Received}
@@ -24,7 +24,7 @@ use Rattle.protocol_received.specs.declared.Received.TheVariants as Receive
 use Rattle.protocol_received.proofs.Classes.{marked, of_reply, of_ack}
 use Rattle.protocol_motor.specs.Motor.{feedback_data, feedback, register_data, register_frame}
 use Rattle.protocol_motor.specs.Refused.{Narrow}
-use Rattle.protocol_motor.specs.RoundTrip.{meaning, fields_of, FeedbackRead, id_of, RegisterRead, Bytes, AreData, RoundTrip}
+use Rattle.protocol_motor.specs.RoundTrip.{meaning, fields_of, FeedbackRead, RegisterRead, Bytes, AreData, RoundTrip}
 use Rattle.protocol_motor.specs.declared.FeedbackFields.{FeedbackFields}
 use Rattle.protocol_motor.proofs.Fields.{feedback_bytes}
 use Rattle.protocol_motor.proofs.Refused.{refused}
@@ -54,7 +54,7 @@ of_feedback f n e = let (narrow, class, same) = (refused.feedback_written f n).0
     })
 
 -- ---- a reply, or else an ack
-abbrev marker_of : Bool → ℕ
+abbrev pub marker_of : Bool → ℕ
 marker_of true = 0x33
 marker_of false = 0x55
 
@@ -70,6 +70,18 @@ marker_byte : (reply : Bool) → marker_of reply % 256 ≡ marker_of reply
 marker_byte true = refl
 marker_byte false = refl
 
+-- its class is that of its marker
+pub register_class : (reply : Bool) (id rid bits : ℕ) → id ≤ 0x4ff → known rid ≡ true → cond reply Class.Reply Class.Ack ≡ class_of (data_bytes (register_data (marker_of reply) id rid bits))
+unfolding data_bytes
+register_class reply id rid bits low listed =
+    let b = addressed_bytes id (marker_of reply) rid bits in
+    let below = known_below rid listed in
+    let m = register_data (marker_of reply) id rid bits in
+    let high : data_byte m 1 ≡ id / 256 = omega (arith, b.d1, low) in
+    let marker : data_byte m 2 ≡ marker_of reply = b.d2 ∙ marker_byte reply in
+    let register : data_byte m 3 ≡ rid = omega (arith, b.d3, below) in
+    marker_class reply (id / 256) rid (omega (arith, low)) listed ∙ (λ i. class registers (sym high i) (sym marker i) (sym register i))
+
 by_marker : (reply : Bool) (l : PvTLimits) (bytes : List ℕ) → by_class (cond reply Class.Reply Class.Ack) l bytes ≡ frame_of reply (d bytes 3) (register_value bytes)
 by_marker true l bytes = refl
 by_marker false l bytes = refl
@@ -81,15 +93,12 @@ of_register reply id rid bits n short e =
     let below = known_below rid listed in
     let b = addressed_bytes id (marker_of reply) rid bits in
     let m = register_data (marker_of reply) id rid bits in
-    let high : data_byte m 1 ≡ id / 256 = omega (arith, b.d1, low) in
-    let marker : data_byte m 2 ≡ marker_of reply = b.d2 ∙ marker_byte reply in
     let register : data_byte m 3 ≡ rid = omega (arith, b.d3, below) in
     let word : word (data_bytes m) ≡ bits = omega (arith, b.d4, b.d5, b.d6, b.d7, short) in
-    let class : cond reply Class.Reply Class.Ack ≡ class_of (data_bytes m) = marker_class reply (id / 256) rid (omega (arith, low)) listed ∙ (λ i. class registers (sym high i) (sym marker i) (sym register i)) in
     subst (RegisterRead (frame_of reply) id rid bits) same
     (record {
       read = λ l.
-          ap (λ (k : FrameClass). by_class k l (data_bytes m)) (sym class)
+          ap (λ (k : FrameClass). by_class k l (data_bytes m)) (sym (register_class reply id rid bits low listed))
           ∙ by_marker reply l (data_bytes m)
           ∙ (λ i. frame_of reply (register i) (value_of (data_type_of (register i)) (word i)));
       bits_back = bits_of_value (data_type_of rid) bits short;

@@ -10,7 +10,7 @@ use Rattle.protocol_codes.specs.Codes.{uint_to_float}
 use Rattle.protocol_frame.specs.Layout.{byte, packed, d, data_bytes}
 use Rattle.protocol_feedback.specs.Feedback.{position_code, velocity_code, torque_code, feedback_of}
 use Rattle.protocol_feedback.specs.declared.SensorFeedback.{SensorFeedback}
-use Rattle.protocol_received.specs.Received.{class_of, word, received}
+use Rattle.protocol_received.specs.Received.{class_of, id_of, word, received}
 use Rattle.protocol_received.specs.declared.FrameClass.TheVariants as Class
 use Rattle.protocol_received.specs.declared.Received.{Received}
 use Rattle.protocol_received.specs.declared.Received.TheVariants as Receive
@@ -50,10 +50,6 @@ pub record FeedbackRead (f : FeedbackFields) (n : ℕ) : Type 0 where
   pub fields : fields_of (data_bytes n) ≡ f
 
 -- ---- a register's frame
-
--- d0 and d1, lowest byte first
-abbrev pub id_of : List ℕ → ℕ
-id_of bytes = d bytes 0 + d bytes 1 * 0x100
 
 -- the value that a register has of 32 bits
 abbrev pub value : ℕ → ℕ → RegisterValue

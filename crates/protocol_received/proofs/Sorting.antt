@@ -11,14 +11,10 @@ use Rattle.registers.specs.declared.RegisterDataType.{RegisterDataType}
 use Rattle.registers.specs.declared.RegisterInfo.{RegisterInfo}
 use Rattle.registers.proofs.Known.{info, info_known}
 use Rattle.protocol_frame.specs.Layout.{d}
-use Rattle.protocol_feedback.specs.Feedback.{feedback_of}
-use Rattle.protocol_received.specs.Received.{class_of, typed_value, register_value, sorted_as, sorted, by_class, received}
+use Rattle.protocol_received.specs.Received.{class_of, register_value, sorted_as, sorted, class_in, read_as, by_class, received}
 use Rattle.protocol_received.specs.declared.FrameClass.{FrameClass}
 use Rattle.protocol_received.specs.declared.FrameClass.TheVariants as Class
-use Rattle.protocol_received.specs.declared.Received.{Received}
-use Rattle.protocol_received.specs.declared.Received.TheVariants as Receive
 use Rattle.protocol_received.specs.declared.Sorted.{Sorted}
-use Rattle.protocol_received.specs.declared.Sorted.TheVariants as Sort
 
 module _ (rid : ℕ) (found : Option RegisterInfo) (looked : found ≡ info_of rid) where
   info_unknown : known rid ≡ false → info_of rid ≡ None
@@ -46,18 +42,6 @@ module _ (rid : ℕ) (found : Option RegisterInfo) (looked : found ≡ info_of r
 pub sorted_by : (bytes : List ℕ) (k : FrameClass) (t : RegisterDataType) → k ≡ class_of bytes → t ≡ data_type_of (d bytes 3) → sorted_as k t ≡ sorted bytes
 unfolding sorted
 sorted_by bytes k t e f = λ i. sorted_as (e i) (f i)
-
--- the class alone
-abbrev pub class_in : Sorted → FrameClass
-class_in (Sort.Reply type) = Class.Reply
-class_in (Sort.Ack type) = Class.Ack
-class_in Sort.Feedback = Class.Feedback
-
--- and what is read by it
-abbrev pub read_as : Sorted → PvTLimits → List ℕ → Received
-read_as (Sort.Reply type) l bytes = Receive.Reply (d bytes 3) (typed_value type bytes)
-read_as (Sort.Ack type) l bytes = Receive.Ack (d bytes 3) (typed_value type bytes)
-read_as Sort.Feedback l bytes = Receive.Feedback (feedback_of l bytes)
 
 module _ (bytes : List ℕ) (s : Sorted) (is : s ≡ sorted bytes) where
   pub sorted_class : class_in s ≡ class_of bytes

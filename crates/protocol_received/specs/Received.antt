@@ -24,6 +24,10 @@ class rids d1 d2 d3 =
 abbrev pub class_of : List ℕ → FrameClass
 class_of bytes = class registers (d bytes 1) (d bytes 2) (d bytes 3)
 
+-- the id in d0 and d1 of a register's frame, lowest byte first
+abbrev pub id_of : List ℕ → ℕ
+id_of bytes = d bytes 0 + d bytes 1 * 0x100
+
 -- the 32 bits in d4 to d7, lowest byte first
 abbrev pub word : List ℕ → ℕ
 word bytes = d bytes 4 + d bytes 5 * 0x100 + d bytes 6 * 0x1_0000 + d bytes 7 * 0x100_0000
@@ -43,6 +47,18 @@ sorted_as Class.Feedback type = Sort.Feedback
 
 unfoldable pub sorted : List ℕ → Sorted
 sorted bytes = sorted_as (class_of bytes) (data_type_of (d bytes 3))
+
+-- the class alone
+abbrev pub class_in : Sorted → FrameClass
+class_in (Sort.Reply type) = Class.Reply
+class_in (Sort.Ack type) = Class.Ack
+class_in Sort.Feedback = Class.Feedback
+
+-- and what is read by it
+abbrev pub read_as : Sorted → PvTLimits → List ℕ → Received
+read_as (Sort.Reply type) l bytes = Receive.Reply (d bytes 3) (typed_value type bytes)
+read_as (Sort.Ack type) l bytes = Receive.Ack (d bytes 3) (typed_value type bytes)
+read_as Sort.Feedback l bytes = Receive.Feedback (feedback_of l bytes)
 
 abbrev pub by_class : FrameClass → PvTLimits → List ℕ → Received
 by_class Class.Reply l bytes = Receive.Reply (d bytes 3) (register_value bytes)

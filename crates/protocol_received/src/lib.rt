@@ -47,7 +47,7 @@ fn marks_register(d1: u8, d2: u8) -> bool
 }
 
 // The register is looked up once, for the class and for the type.
-fn sort_frame(data: [u8; 8]) -> Sorted
+pub fn sort_frame(data: [u8; 8]) -> Sorted
     ensures { result ≡ Spec.sorted «data» }
 {
     let marker = data[2];
@@ -80,14 +80,20 @@ fn typed_value(data: [u8; 8], data_type: RegisterDataType) -> RegisterValue
     registers::value_from_bits(data_type, bits)
 }
 
-// Sorts a frame and reads it. Any six limits, as for `decode_sensor_feedback`.
-pub fn read_frame(data: [u8; 8], limits: PvTLimits) -> Received
-    ensures { result ≡ Spec.received limits «data» }
+// What a frame says that is so sorted. Any six limits, as for `decode_sensor_feedback`.
+pub fn read_sorted(data: [u8; 8], sorted: Sorted, limits: PvTLimits) -> Received
+    ensures { result ≡ Spec.read_as sorted limits «data» }
 {
-    let sorted = sort_frame(data);
     match sorted {
         Sorted::Reply(data_type) => Received::Reply(data[3], typed_value(data, data_type)),
         Sorted::Ack(data_type) => Received::Ack(data[3], typed_value(data, data_type)),
         Sorted::Feedback => Received::Feedback(decode_sensor_feedback(data, limits)),
     }
+}
+
+// Sorts a frame and reads it.
+pub fn read_frame(data: [u8; 8], limits: PvTLimits) -> Received
+    ensures { result ≡ Spec.received limits «data» }
+{
+    read_sorted(data, sort_frame(data), limits)
 }

@@ -46,7 +46,7 @@ pub struct After<T> {
 
 pub type AfterPatch = After<bool>;
 
-// Whether a frame may be this motor's. Taking a frame does not ask.
+// Whether a frame may be this motor's, as the Rust tests it. Taking a frame tests more.
 pub fn accepts_frame(head: Head, frame: CanFrame) -> bool
     ensures { result ≡ frame_accepted head.motor_id head.feedback_id frame }
 {

@@ -6,6 +6,7 @@ use Rattle.time.specs.Time.{reading_accepted}
 use Rattle.motor_core.specs.declared.bus.CanFrame.{CanFrame}
 use Rattle.time.specs.declared.Instant.{Instant}
 use Rattle.registers.specs.declared.RegisterValue.{RegisterValue}
+use Rattle.protocol_address.specs.Address.{own_frame}
 use Rattle.protocol_received.specs.Received.{received}
 use Rattle.protocol_received.specs.declared.Received.{Received}
 use Rattle.protocol_received.specs.declared.Received.TheVariants.{Reply, Ack, Feedback}
@@ -19,13 +20,17 @@ use Rattle.session.specs.declared.Head.{Head}
 use Rattle.session.specs.declared.Session.{Session}
 use Rattle.session.specs.declared.After.{After}
 use Rattle.session_frame.specs.declared.FrameStep.{FrameStep}
+use Rattle.session_frame.specs.declared.FrameStep.TheVariants.{Latest, Kept}
 
--- 'Turned back', a frame: 3 by its reading, or it is taken; nothing of the frame itself is tested
+-- 'Turned back', a frame: 3 by its reading, then 15 if it is not this motor's, or it is taken
 abbrev pub FrameOutcome : Type 0
 FrameOutcome = Result (Unit {0}) Refusal
 
 abbrev pub frame_outcome : Head → CanFrame → Instant → FrameOutcome
-frame_outcome head frame reading = cond (reading_accepted head.last reading) (Ok tt) (Err Refusal.Reading)
+frame_outcome head frame reading =
+    cond (reading_accepted head.last reading)
+    (cond (own_frame head.motor_id head.feedback_id frame) (Ok tt) (Err Refusal.ForeignFrame))
+    (Err Refusal.Reading)
 
 -- the reading becomes the last
 abbrev pub head_at : Head → FeedbackCache → Instant → Head
@@ -82,14 +87,11 @@ take_frame s frame reading =
     let outcome = frame_outcome s.head frame reading in
     record { session = take_by outcome s frame reading; told = outcome }
 
--- The same on the small parts, and what is to be kept in a cache.
-abbrev pub kept_of : Received → Instant → Option (Place × Entry)
-kept_of (Reply rid value) reading = Some (Place.Reply rid, Held value reading)
-kept_of (Ack rid value) reading = Some (Place.Ack rid, Held value reading)
-kept_of (Feedback f) reading = None
-
-abbrev pub taken_step : Head → ℕ → Received → Instant → FrameStep
-taken_step h id received reading = record { head = head_after h id received reading; kept = kept_of received reading }
+-- The same on the small parts: the record or the entry that is brought.
+abbrev pub taken_step : FeedbackCache → ℕ → Received → Instant → FrameStep
+taken_step cache id (Reply rid value) reading = Kept (Place.Reply rid) (Held value reading)
+taken_step cache id (Ack rid value) reading = Kept (Place.Ack rid) (Held value reading)
+taken_step cache id (Feedback f) reading = Latest (update cache (state_of id f) reading)
 
 unfoldable pub frame_step : Head → CanFrame → Instant → Result FrameStep Refusal
-frame_step h frame reading = and_then (frame_outcome h frame reading) (λ taken. Ok (taken_step h frame.arbitration_id (says h frame) reading))
+frame_step h frame reading = and_then (frame_outcome h frame reading) (λ taken. Ok (taken_step h.feedback frame.arbitration_id (says h frame) reading))

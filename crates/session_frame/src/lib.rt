@@ -1,4 +1,4 @@
-// A frame, in the small parts of a session: its head, and at most one slot that is to be kept.
+// A frame, in the small parts of a session: the record or the entry that it brings.
 #![tactic(auto)]
 
 ghost use Rattle.std.specs.Prelude.{◌≡◌};
@@ -6,56 +6,43 @@ ghost use Rattle.session_frame.specs.Frame as Spec;
 
 use motor_core::bus::CanFrame;
 use motor_core::error::Refusal;
-use protocol_received::{Received, read_frame};
+use protocol_address::sort_own;
+use protocol_received::{Received, read_sorted};
 use session::{After, Head};
 use state_cache::{Entry, Place};
 use state_feedback::{FeedbackCache, state_of, update};
 use time::{Instant, accepts_reading};
 
-// The small parts after a frame, and the entry that is to be kept in a cache.
+// What a frame that is taken brings: the latest record, or the entry of a register's replies or acks.
 #[derive(Clone, Copy)]
-pub struct FrameStep {
-    pub head: Head,
-    pub kept: Option<(Place, Entry)>,
+pub enum FrameStep {
+    Latest(FeedbackCache),
+    Kept(Place, Entry),
 }
 
 pub type AfterFrame = After<Result<(), Refusal>>;
 
-fn head_at(head: Head, feedback: FeedbackCache, reading: Instant) -> Head
-    ensures { result ≡ Spec.head_at head feedback reading }
+// By what the frame says.
+fn taken_step(
+    feedback: FeedbackCache,
+    arbitration_id: u32,
+    received: Received,
+    reading: Instant,
+) -> FrameStep
+    ensures { result ≡ Spec.taken_step feedback arbitration_id received reading }
 {
-    Head {
-        feedback,
-        last: reading,
-        ..head
-    }
-}
-
-// What a frame that is taken changes, by what it says.
-fn taken_step(head: Head, arbitration_id: u32, received: Received, reading: Instant) -> FrameStep
-    ensures { result ≡ Spec.taken_step head arbitration_id received reading }
-{
-    let feedback = head.feedback;
     match received {
-        Received::Reply(rid, value) => FrameStep {
-            head: head_at(head, feedback, reading),
-            kept: Some((Place::Reply(rid), Entry::Held(value, reading))),
-        },
-        Received::Ack(rid, value) => FrameStep {
-            head: head_at(head, feedback, reading),
-            kept: Some((Place::Ack(rid), Entry::Held(value, reading))),
-        },
+        Received::Reply(rid, value) => {
+            FrameStep::Kept(Place::Reply(rid), Entry::Held(value, reading))
+        }
+        Received::Ack(rid, value) => FrameStep::Kept(Place::Ack(rid), Entry::Held(value, reading)),
         Received::Feedback(decoded) => {
-            let state = state_of(arbitration_id, decoded);
-            FrameStep {
-                head: head_at(head, update(feedback, state, reading), reading),
-                kept: None,
-            }
+            FrameStep::Latest(update(feedback, state_of(arbitration_id, decoded), reading))
         }
     }
 }
 
-// Takes a frame, with its reading, into the small parts.
+// Takes a frame of this motor's, with its reading. The reading becomes the last.
 #[tactic(auto, unfolding(crate::specs::Frame::frame_step))]
 pub fn frame_step(head: Head, frame: CanFrame, reading: Instant) -> Result<FrameStep, Refusal>
     ensures { result ≡ Spec.frame_step head frame reading }
@@ -63,10 +50,11 @@ pub fn frame_step(head: Head, frame: CanFrame, reading: Instant) -> Result<Frame
     if !accepts_reading(head.last, reading) {
         return Err(Refusal::Reading);
     }
-    Ok(taken_step(
-        head,
-        frame.arbitration_id,
-        read_frame(frame.data, head.limits),
-        reading,
-    ))
+    match sort_own(frame, head.motor_id, head.feedback_id) {
+        None => Err(Refusal::ForeignFrame),
+        Some(sorted) => {
+            let received = read_sorted(frame.data, sorted, head.limits);
+            Ok(taken_step(head.feedback, frame.arbitration_id, received, reading))
+        }
+    }
 }

@@ -1,17 +1,20 @@
--- What a frame's step leaves, put back into a session. Assumes nothing.
-use Rattle.std.specs.Prelude.{set, Option, Some, None}
+-- The reading of a frame that is taken, and what its step brings, put where they stand in a session. Assumes nothing.
+use Rattle.std.specs.Prelude.{set}
+use Rattle.time.specs.declared.Instant.{Instant}
 use Rattle.state_cache.specs.Cache.{slot_index}
-use Rattle.session.specs.Session.{with_head, with_replies, with_acks}
+use Rattle.state_cache.specs.declared.Place.TheVariants.{Reply, Ack}
+use Rattle.session.specs.Session.{with_feedback, with_last, with_head, with_replies, with_acks}
 use Rattle.session.specs.declared.Session.{Session}
 use Rattle.session_frame.specs.declared.FrameStep.{FrameStep}
-use Rattle.state_cache.specs.declared.Entry.{Entry}
-use Rattle.state_cache.specs.declared.Place.{Place}
-use Rattle.state_cache.specs.declared.Place.TheVariants.{Reply, Ack}
+use Rattle.session_frame.specs.declared.FrameStep.TheVariants.{Latest, Kept}
 
-abbrev pub put_kept : Session → Option (Place × Entry) → Session
-put_kept s None = s
-put_kept s (Some (Reply rid, entry)) = with_replies s (set s.replies (slot_index rid) entry)
-put_kept s (Some (Ack rid, entry)) = with_acks s (set s.acks (slot_index rid) entry)
+abbrev pub stamped : Session → Instant → Session
+stamped s reading = with_head s (with_last s.head reading)
 
-abbrev pub put_back : Session → FrameStep → Session
-put_back s step = put_kept (with_head s step.head) step.kept
+abbrev pub put : Session → FrameStep → Session
+put s (Latest cache) = with_head s (with_feedback s.head cache)
+put s (Kept (Reply rid) entry) = with_replies s (set s.replies (slot_index rid) entry)
+put s (Kept (Ack rid) entry) = with_acks s (set s.acks (slot_index rid) entry)
+
+abbrev pub put_back : Session → FrameStep → Instant → Session
+put_back s step reading = put (stamped s reading) step

@@ -1,5 +1,5 @@
-// Taking a frame into a session that is lent. The head is read, stepped and written back where it
-// stands, and a register's value put into its slot; nothing else of the session is touched.
+// Taking a frame into a session that is lent. The record or the one slot that the frame brings, and the last
+// reading, are written where they stand; nothing else of the session is touched.
 #![tactic(auto)]
 
 ghost use Rattle.std.specs.Prelude.{◌≡◌};
@@ -8,7 +8,7 @@ ghost use Rattle.session_frame.specs.Frame.{take_frame};
 use motor_core::bus::CanFrame;
 use motor_core::error::Refusal;
 use session::{After, Session};
-use session_frame::{AfterFrame, frame_step};
+use session_frame::{AfterFrame, FrameStep, frame_step};
 use state_cache::{Place, slot_index};
 use time::Instant;
 
@@ -23,12 +23,13 @@ pub fn process_feedback_frame(
     ensures session { session.new ≡ (take_frame session.old frame reading).session }
 {
     let step = frame_step(session.head, frame, reading)?;
-    session.head = step.head;
-    if let Some((place, entry)) = step.kept {
-        match place {
+    session.head.last = reading;
+    match step {
+        FrameStep::Latest(feedback) => session.head.feedback = feedback,
+        FrameStep::Kept(place, entry) => match place {
             Place::Reply(rid) => session.replies[slot_index(rid)] = entry,
             Place::Ack(rid) => session.acks[slot_index(rid)] = entry,
-        }
+        },
     }
     Ok(())
 }

@@ -1,6 +1,7 @@
 // Inputs of eight bytes each, a frame's data, random.
 use crate::random::{Inputs, next};
 use protocol_frame::data_bytes;
+use protocol_received::{FrameClass, frame_class};
 
 // Low feedback has a position so low that d2 decides, and that of unknown registers looks like a
 // reply.
@@ -96,12 +97,43 @@ fn frame(kind: Frames, random: &mut u64) -> [u8; 8] {
     }
 }
 
+pub(crate) fn of_motor_1_in_d0(d0: u8) -> u8 {
+    d0 & 0xf0 | 1
+}
+
+// A frame as motor 1 sends it: with its id in d0 and d1 if it is a register's, else with the low four bits
+// in d0.
+fn of_motor_1(mut data: [u8; 8]) -> [u8; 8] {
+    match frame_class(data) {
+        FrameClass::Reply | FrameClass::Ack => {
+            data[0] = 1;
+            data[1] = 0;
+        }
+        FrameClass::Feedback => data[0] = of_motor_1_in_d0(data[0]),
+    }
+    data
+}
+
 impl Inputs for Frames {
     type Input = [u8; 8];
 
     fn fill(self, inputs: &mut [[u8; 8]], random: &mut u64) {
         for data in inputs {
             *data = frame(self, random);
+        }
+    }
+}
+
+// The same as motor 1 sends them.
+#[derive(Clone, Copy)]
+pub(crate) struct OfMotor1(pub(crate) Frames);
+
+impl Inputs for OfMotor1 {
+    type Input = [u8; 8];
+
+    fn fill(self, inputs: &mut [[u8; 8]], random: &mut u64) {
+        for data in inputs {
+            *data = of_motor_1(frame(self.0, random));
         }
     }
 }

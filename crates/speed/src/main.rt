@@ -14,7 +14,7 @@ mod sessions;
 mod sums;
 mod ways;
 
-use frames::Frames;
+use frames::{Frames, OfMotor1};
 use numbers::Numbers;
 use random::Inputs;
 use report::{clock, finish};
@@ -99,34 +99,27 @@ impl<'a, P: Print + CpuClock> Bench<'a, P> {
     fn session_rows(&mut self) {
         let mut frames: Taken = [[0; 8]; 50_000];
         let fs = &mut frames;
-        self.row(
-            "take feedback frames, lent",
-            Frames::Feedback,
-            fs,
-            lent::take_lent,
-        );
-        self.row("take replies, lent", Frames::Replies, fs, lent::take_lent);
+        let feedback = OfMotor1(Frames::Feedback);
+        let replies = OfMotor1(Frames::Replies);
+        let mixed = OfMotor1(Frames::Mixed);
+        self.row("take feedback frames, lent", feedback, fs, lent::take_lent);
+        self.row("take replies, lent", replies, fs, lent::take_lent);
         self.row(
             "take, a third of each class, lent",
-            Frames::Mixed,
+            mixed,
             fs,
             lent::take_lent,
         );
         self.row(
             "take feedback frames, by value",
-            Frames::Feedback,
+            feedback,
             fs,
             sessions::take,
         );
-        self.row(
-            "take replies, by value",
-            Frames::Replies,
-            fs,
-            sessions::take,
-        );
+        self.row("take replies, by value", replies, fs, sessions::take);
         self.row(
             "take, a third of each class, by value",
-            Frames::Mixed,
+            mixed,
             fs,
             sessions::take,
         );

@@ -1,6 +1,7 @@
 // A session reads register 10, writes it or switches the mode, which that register is, once for each
 // frame. The motor answers each frame at once. The checksum has what the calls tell and
 // all that a frame may change.
+use crate::frames::of_motor_1_in_d0;
 use crate::sessions::{frame_of, session_4310, session_total};
 use crate::sums::mixed;
 use crate::ways::{RunTold, Way};
@@ -37,12 +38,13 @@ fn value_in(data: [u8; 8]) -> u32 {
     u32::from_le_bytes([data[4], data[5], data[6], data[7]])
 }
 
-// The motor sends every frame back; a read comes back with the value.
+// The motor sends every frame back, with its own low four bits in d0; a read comes back with the value.
 fn motor_frame(value: u32, data: u64) -> CanFrame {
     let mut bytes = data_bytes(data);
     if bytes[2] == 0x33 {
         bytes[4..].copy_from_slice(&value.to_le_bytes());
     }
+    bytes[0] = of_motor_1_in_d0(bytes[0]);
     frame_of(bytes)
 }
 

@@ -1,6 +1,7 @@
 -- `protocol_received::frame_class` meets its contract. Assumes nothing.
 use mathlib.Core.Path.{sym, ap, ◌∙◌}
-use Rattle.protocol_received.proofs.Sorting.{class_in, sorted_class}
+use Rattle.protocol_received.specs.Received.{class_in}
+use Rattle.protocol_received.proofs.Sorting.{sorted_class}
 use Rattle.protocol_received.proofs.frame_class.Goals as goal
 
 pub returns-in-Reply : goal.returns-in-Reply

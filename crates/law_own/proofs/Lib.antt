@@ -1,0 +1,4 @@
+pub mod Frames
+pub mod Own
+pub mod Records
+pub mod Worked

@@ -1,0 +1,2 @@
+pub mod Exactly
+pub mod Own
