@@ -18,9 +18,9 @@ add 3 600 tables
 add 5 800 models
 # lines.script has calls on a session that has not started, so that what starts one comes after it.
 cat lines.script >> "$list/stdin"
-cat runs.script mode.script worst.script >> "$list/stdin"
+cat runs.script mode.script worst.script accident.script >> "$list/stdin"
 # The same again with every frame taken by the entry that the session is lent to.
-LC_ALL=C sed 's/^frame /frame-lent /' lines.script runs.script mode.script >> "$list/stdin"
+LC_ALL=C sed 's/^frame /frame-lent /' lines.script runs.script mode.script accident.script >> "$list/stdin"
 add 6 1400 sessions
 add 7 2000 runs
 add 8 3000 mode

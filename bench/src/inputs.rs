@@ -1,6 +1,6 @@
 //! The inputs, from a seed: random numbers are drawn in the order in which `speed` draws them.
 
-use motor_vendor_damiao::motor::adapter;
+use motor_vendor_damiao::motor::adapter::{self, FrameClass};
 use motor_vendor_damiao::registers::{register_info, REGISTER_TABLE};
 
 const REPLY: u8 = 0x33;
@@ -81,6 +81,20 @@ pub type Frame = [u8; 8];
 
 pub fn frames(random: &mut Random, make: fn(&mut Random) -> Frame, count: usize) -> Vec<Frame> {
     (0..count).map(|_| make(random)).collect()
+}
+
+/// A frame as motor 1 sends it: with its id in d0 and d1 if it is a register's, else with the low four bits in
+/// d0.
+pub fn of_motor_1(mut frame: Frame) -> Frame {
+    match adapter::sort(&frame) {
+        FrameClass::Reply | FrameClass::Ack => (frame[0], frame[1]) = (1, 0),
+        FrameClass::Feedback => frame[0] = of_motor_1_in_d0(frame[0]),
+    }
+    frame
+}
+
+pub fn of_motor_1_in_d0(d0: u8) -> u8 {
+    d0 & 0xF0 | 1
 }
 
 fn any(random: &mut Random) -> Frame {

@@ -26,7 +26,9 @@ fn frames(r: &mut Random, name: &str, make: fn(&mut Random) -> Frame, work: fn(&
 }
 
 fn taken(r: &mut Random, name: &str, make: fn(&mut Random) -> Frame, work: fn(&[Frame]) -> u64) {
-    Row { name, work }.timed(&inputs::frames(r, make, TAKEN));
+    let frames = inputs::frames(r, make, TAKEN);
+    let of_motor_1: Vec<Frame> = frames.into_iter().map(inputs::of_motor_1).collect();
+    Row { name, work }.timed(&of_motor_1);
 }
 
 #[rustfmt::skip] // a line for each row

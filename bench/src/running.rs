@@ -1,8 +1,8 @@
 //! The original's motor runs register reads, confirmed writes and mode switches on a bus that answers
-//! each frame at once.
+//! each frame at once, as motor 1.
 
 use crate::checksum::{motor_total, next};
-use crate::inputs::Frame;
+use crate::inputs::{of_motor_1_in_d0, Frame};
 use motor_core::bus::{CanBus, CanFrame};
 use motor_core::device::MotorDevice;
 use motor_core::error::Result;
@@ -17,8 +17,8 @@ const ACK: u8 = 0x55;
 const READ_TIMEOUT: Duration = Duration::from_millis(100);
 const SWITCH_TIMEOUT: Duration = Duration::from_millis(400);
 
-/// A bus with one motor, which sends each frame back before the send is over: a read with the value
-/// of register 10, which a write sets.
+/// A bus with one motor, which sends each frame back before the send is over, with its own low four bits in
+/// d0: a read with the value of register 10, which a write sets.
 struct PromptBus {
     motor: AtomicPtr<DamiaoMotor>,
     value: AtomicU32,
@@ -58,6 +58,7 @@ impl PromptBus {
             ACK => self.value.store(value_in(data), Relaxed),
             _ => {}
         }
+        data[0] = of_motor_1_in_d0(data[0]);
         data
     }
 }

@@ -24,9 +24,10 @@ use std::io;
 use std::process::ExitCode;
 use std::time::Duration;
 
-const USAGE: &str = "usage: oracle run < SCRIPT > ANSWERS
+const USAGE: &str = "usage: oracle run [--any-frame] < SCRIPT > ANSWERS
        oracle random --seed S --lines N --kinds LIST [--without LIST] --script FILE --answers FILE
        oracle compare --drive CMD --seed S --lines N|--seconds N|--minutes N --kinds LIST [--without LIST] [--chunk N] [--keep FILE]
+--any-frame: each frame is taken, as the original takes it, without the test 15
 kinds: all, stateless, frames-out, frames-in, motor-side, models, tables, sessions, runs, mode, bad";
 
 fn main() -> ExitCode {
@@ -36,7 +37,7 @@ fn main() -> ExitCode {
         None => ("", [].as_slice()),
     };
     let done = match command {
-        "run" => Options::read(rest, &[]).and_then(|_| run()),
+        "run" => oracle_for(rest).and_then(run),
         "random" => Options::read(
             rest,
             &["seed", "lines", "kinds", "without", "script", "answers"],
@@ -90,8 +91,15 @@ impl Options {
     }
 }
 
-fn run() -> Result<(), String> {
-    let mut oracle = Oracle::default();
+fn oracle_for(words: &[String]) -> Result<Oracle, String> {
+    match words {
+        [] => Ok(Oracle::default()),
+        [word] if word == "--any-frame" => Ok(Oracle::of_any_frame()),
+        _ => Err(USAGE.to_string()),
+    }
+}
+
+fn run(mut oracle: Oracle) -> Result<(), String> {
     let input = io::BufReader::with_capacity(1 << 17, io::stdin().lock());
     let output = io::BufWriter::with_capacity(1 << 17, io::stdout().lock());
     lines::answer_lines(input, output, |line, out| oracle.line(line, out))

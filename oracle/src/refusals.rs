@@ -1,5 +1,7 @@
 //! The refusals of the table 'Turned back', and those that document 02 adds, each test with its number.
 
+use crate::parser::Frame;
+use motor_vendor_damiao::motor::adapter::{self, FrameClass};
 use motor_vendor_damiao::registers::{
     register_info, RegisterAccess, RegisterDataType, RegisterInfo,
 };
@@ -64,6 +66,19 @@ pub fn read_as_feedback(is_feedback: bool) -> Result<(), Refused> {
 /// 14, of a field and the most that it may be.
 pub fn field(field: impl Into<u32>, most: u32) -> Result<(), Refused> {
     refuse_if(field.into() > most, 14)
+}
+
+/// 15, of a frame that is not this motor's. The original's sorting gives its class.
+pub fn own_frame(frame: &Frame, motor: u16, feedback: u16) -> Result<(), Refused> {
+    let [low, high] = motor.to_le_bytes();
+    let [d0, d1, ..] = frame.data;
+    let is_addressed = match adapter::sort(&frame.data) {
+        FrameClass::Feedback => d0 & 0xF == low & 0xF,
+        FrameClass::Reply | FrameClass::Ack => d0 == low && d1 == high,
+    };
+    let on_its_id = frame.id == u32::from(feedback);
+    let own = !frame.extended && frame.dlc == 8 && on_its_id && is_addressed;
+    refuse_if(!own, 15)
 }
 
 pub fn query(query: [f32; 3]) -> Result<(), Refused> {

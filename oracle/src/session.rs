@@ -30,6 +30,8 @@ pub struct Session {
     motor: Arc<DamiaoMotor>,
     last: u64,
     run: Option<Run<Outcome>>,
+    /// Without the test 15: any frame is taken, as the original takes it.
+    pub any_frame: bool,
 }
 
 impl Session {
@@ -55,6 +57,7 @@ impl Session {
             motor: Arc::new(motor),
             last: 0,
             run: None,
+            any_frame: false,
         }
     }
 
@@ -147,6 +150,9 @@ impl Session {
 
     fn take(&mut self, reading: u64, frame: Frame) -> Result<(), Refused> {
         refusals::reading(reading, self.last)?;
+        if !self.any_frame {
+            refusals::own_frame(&frame, self.motor_id(), self.feedback_id())?;
+        }
         self.last = reading;
         script::at_reading(reading, || {
             self.motor.process_feedback_frame(received(frame))

@@ -23,11 +23,11 @@ fn check_with(oracle: &mut Oracle, script: &str) {
 
 #[test]
 fn example_of_the_line_script() {
-    // Verbatim: each line a call, some spaces, its answer.
+    // Each line a call, some spaces, its answer. The paper's frame has another id, and would be refused with 15.
     let example = "
     start-model 4310 1 0x11          started
     read-reg 1 10                    frame 2047 0100330A00000000
-    frame 5 0x11 0x110F330A01000000 8 0      taken
+    frame 5 0x11 0x0100330A01000000 8 0      taken
     session                          session last 5 sequence 0 run 0 latest none replies 10 u32 1 5 acks
     get-u32 10 1000000               want clock
     clock 6                          want send 2047 0100330A00000000
@@ -191,7 +191,7 @@ fn written_replies_and_acks_are_what_the_original_takes() {
     for rid in 0..=u8::MAX {
         for bits in [0, 1, 0x0403_0201, 0x7FC1_2345, 0xFF80_0001, u32::MAX] {
             for (word, id) in [("reply", 0), ("reply", 0x4FF), ("ack", 1), ("ack", 0x4FF)] {
-                assert_eq!(told("start-model 4310 1 17".into()), "started");
+                assert_eq!(told(format!("start-model 4310 {id} 17")), "started");
                 let made = told(format!("make-{word} {id} {rid} {bits}"));
                 let Some(info) = register_info(rid) else {
                     assert_eq!(made, "refused 4");
@@ -241,16 +241,135 @@ fn refusals_in_their_order() {
         write-u32 66 0 => refused 8
         sent => refused 9
         clock 0x4000000000000001 => refused 3
-        frame 7 0 0 8 0 => taken
+        frame 7 0x11 0x0100000000000000 8 0 => taken
         clock 6 => refused 3
         frame 6 0 0 8 0 => refused 3
+        frame 7 0 0 8 0 => refused 15
         clock 7 => want send 2047 0100330A00000000
         clock 0 => refused 9
         start-limits 1 1 0 0 0 => refused 1
         send-timeout => timeout
-        session => session last 7 sequence 1 run 0 latest 1 7 0 0 0 DISABLED C1480000 C1F00000 C1200000 00000000 00000000 replies acks
-        frame 0x4000000000000000 0 0 8 0 => taken",
+        session => session last 7 sequence 1 run 0 latest 1 7 1 17 0 DISABLED C1480000 C1F00000 C1200000 00000000 00000000 replies acks
+        frame 0x4000000000000001 0 0 8 0 => refused 3
+        frame 0x4000000000000000 0x11 0x0100000000000000 8 0 => taken",
     );
+}
+
+#[test]
+fn frames_of_other_motors() {
+    // Each test alone: extended, length, id, low four bits of a feedback, d0 and d1 of a reply and an ack.
+    check(
+        "start-model 4310 0x2A5 0x2B5 => started
+        frame 5 0x2B5 0x1500000000000000 8 0 => taken
+        frame 5 0x2B5 0xA502330A07000000 8 0 => taken
+        frame 5 0x2B5 0xA502550A08000000 8 0 => taken
+        frame 6 0x2B5 0x1500000000000000 8 1 => refused 15
+        frame 6 0x2B5 0x1500000000000000 0 0 => refused 15
+        frame 6 0x2B5 0x1500000000000000 7 0 => refused 15
+        frame 6 0x2B5 0x1500000000000000 9 0 => refused 15
+        frame 6 0x2A5 0x1500000000000000 8 0 => refused 15
+        frame 6 0x7FF 0x1500000000000000 8 0 => refused 15
+        frame 6 0x102B5 0x1500000000000000 8 0 => refused 15
+        frame 6 0x2B5 0x1400000000000000 8 0 => refused 15
+        frame 6 0x2B5 0x0502330A09000000 8 0 => refused 15
+        frame 6 0x2B5 0xA402330A09000000 8 0 => refused 15
+        frame 6 0x2B5 0xA501330A09000000 8 0 => refused 15
+        frame 6 0x2B5 0xA503550A09000000 8 0 => refused 15
+        frame 6 0x2B5 0xA500550A09000000 8 0 => refused 15
+        frame 6 0x2B5 0xA50F550A09000000 8 0 => refused 15
+        frame 4 0x2A5 0x1500000000000000 8 0 => refused 3
+        frame 0x4000000000000001 0x2B5 0xA501330A09000000 8 0 => refused 3
+        session => session last 5 sequence 1 run 0 latest 1 5 5 693 1 ENABLED C1480000 C1F00000 C1200000 00000000 00000000 replies 10 u32 7 5 acks 10 u32 8 5
+        frame 5 0x2B5 0x2510330A09000000 8 0 => taken
+        frame 5 0x2B5 0x250F332509000000 8 0 => taken
+        accepts 0x7FF 0x0500000000000000 1 0 => accepts 1",
+    );
+}
+
+#[test]
+fn echoes() {
+    // On 0x7FF our own write is an ack, and our own read a reply, if that is the feedback id.
+    for (feedback, answer, held) in [
+        (
+            "0x7FF",
+            "taken",
+            "last 2 sequence 0 run 0 latest none replies 10 u32 0 1 acks 10 u32 3 2",
+        ),
+        (
+            "0x7FE",
+            "refused 15",
+            "last 0 sequence 0 run 0 latest none replies acks",
+        ),
+        (
+            "0x11",
+            "refused 15",
+            "last 0 sequence 0 run 0 latest none replies acks",
+        ),
+    ] {
+        check(&format!(
+            "read-reg 1 10 => frame 2047 0100330A00000000
+            write-reg 1 10 3 => frame 2047 0100550A03000000
+            start-model 4310 1 {feedback} => started
+            frame 1 0x7FF 0x0100330A00000000 8 0 => {answer}
+            frame 2 0x7FF 0x0100550A03000000 8 0 => {answer}
+            session => session {held}"
+        ));
+    }
+}
+
+#[test]
+fn first_bytes_of_a_motors_frames() {
+    for motor in [0, 1, 0xF, 0x10, 0x11, 0xFF, 0x100, 0x101, 0x234, 0x4FF] {
+        let mut oracle = Oracle::default();
+        check_with(
+            &mut oracle,
+            &format!("start-model 4310 {motor} 0x11 => started"),
+        );
+        let mut taken = |d1: u32, marker: u32| {
+            let is_taken = |d0: &u32| {
+                let mut answer = Vec::new();
+                let line = format!("frame 1 0x11 0x{d0:02X}{d1:02X}{marker:02X}0A01000000 8 0");
+                oracle.line(line.as_bytes(), &mut answer);
+                answer == b"taken\n"
+            };
+            (0..256).filter(is_taken).collect::<Vec<u32>>()
+        };
+        for d1 in 0..16 {
+            let own: Vec<u32> = (d1 == motor / 256)
+                .then_some(motor % 256)
+                .into_iter()
+                .collect();
+            assert_eq!((taken(d1, 0x33), taken(d1, 0x55)), (own.clone(), own));
+        }
+        let same_low_bits: Vec<u32> = (0..16).map(|status| status * 16 + motor % 16).collect();
+        assert_eq!(taken(16, 0x33), same_low_bits);
+        assert_eq!(taken(0, 0x34), same_low_bits);
+    }
+}
+
+#[test]
+fn refused_frames_might_as_well_not_have_come() {
+    let recipe = Recipe {
+        families: random::families("sessions,runs,mode").expect("kinds"),
+        without: Vec::new(),
+    };
+    let chunk = random::chunk(15, 60_000, &recipe);
+    // Without the test, on the script without the frames that it refuses.
+    let mut oracle = Oracle::default();
+    let mut original = Oracle::of_any_frame();
+    let mut refused = 0;
+    lines::answer_lines(chunk.script.as_slice(), std::io::sink(), |line, _| {
+        let (mut answer, mut untested) = (Vec::new(), Vec::new());
+        oracle.line(line, &mut answer);
+        if answer == b"refused 15\n" {
+            refused += 1;
+        } else {
+            original.line(line, &mut untested);
+            assert_eq!(answer, untested);
+        }
+    })
+    .expect("no input or output fails");
+    assert!(refused > 1_000, "{refused}");
 }
 
 #[test]
@@ -263,17 +382,17 @@ fn confirmed_write_keeps_the_bits_of_a_nan() {
         clock 50000005 => want sleep 20000000
         slept => want send 2047 010055000100C07F
         sent => want clock
-        frame 50000005 0x11 0x110055000100C07F 8 0 => taken
+        frame 50000005 0x11 0x010055000100C07F 8 0 => taken
         clock 50000006 => want clock
         clock 100000005 => want sleep 2000000
-        frame 100000005 0x11 0x110055000200C07F 8 0 => taken
+        frame 100000005 0x11 0x010055000200C07F 8 0 => taken
         slept => want sleep 20000000
         slept => want send 2047 010055000100C07F
         sent => want clock
         clock 100000005 => mismatch f32 7FC00002
         write-f32 0 0x7F800001 => want send 2047 010055000100807F
         sent => want clock
-        frame 100000005 0x11 0x110055000100807F 8 0 => taken
+        frame 100000005 0x11 0x010055000100807F 8 0 => taken
         clock 100000005 => done
         write-u32 10 4 => want send 2047 0100550A04000000
         send-failed => send-failed
@@ -285,7 +404,7 @@ fn confirmed_write_keeps_the_bits_of_a_nan() {
 fn reads_and_states() {
     check(
         "start-model 4310 1 0x11 => started
-        frame 3 0x11 0x1100335011223344 8 1 => taken
+        frame 3 0x11 0x0100335011223344 8 0 => taken
         get-u32 80 0 => want clock
         clock 3 => want send 2047 0100335000000000
         sent => wrong-type
@@ -295,7 +414,7 @@ fn reads_and_states() {
         get-f32 80 0 => want clock
         clock 4 => want send 2047 0100335000000000
         sent => want clock
-        frame 4 0x11 0x1100335011223344 8 1 => taken
+        frame 4 0x11 0x0100335011223344 8 0 => taken
         clock 4 => timeout
         fresh-state 1 => want clock
         clock 4 => want send 2047 0100CC0000000000
@@ -304,11 +423,11 @@ fn reads_and_states() {
         slept => want clock
         clock 5 => no-state
         patch 0 1 2 => patched 0
-        frame 9 0x7FF 0xFFFFFFFFFFFFFFFF 0 0 => taken
+        frame 9 0x11 0xF1FFFFFFFFFFFFFF 8 0 => taken
         patch 255 1 2 => patched 1
         fresh-state 1 => want clock
         clock 9 => want send 2047 0100CC0000000000
-        sent => done state 15 2047 255 UNKNOWN 41480000 41F00000 41200000 3F800000 40000000
+        sent => done state 1 17 255 UNKNOWN 41480000 41F00000 41200000 3F800000 40000000
         fresh-state 1 => want clock
         clock 9 => want send 2047 0100CC0000000000
         send-failed => send-failed
@@ -336,18 +455,18 @@ fn mode_switch() {
         clock 0 => want clock
         clock 0 => want clock
         clock 0 => want send 2047 0100330A00000000
-        frame 0 0x11 0x1100330A01000000 8 0 => taken
+        frame 0 0x11 0x0100330A01000000 8 0 => taken
         sent => want clock
         clock 0 => want clock
         clock 0 => want send 2047 0100335000000000
-        frame 0 0x11 0x110033500000803F 8 0 => taken
+        frame 0 0x11 0x010033500000803F 8 0 => taken
         sent => want send 513 0000000000000000
         sent => want send 257 0000803F00000000
         send-failed => want send 769 0000803F00000000
         send-timeout => want send 1 8A3C7FF0000007FF
         sent => want send 2047 0100550A02000000
         sent => want clock
-        frame 0 0x11 0x1100550A02000000 8 0 => taken
+        frame 0 0x11 0x0100550A02000000 8 0 => taken
         clock 0 => want clock
         clock 0 => want sleep 20000000
         slept => want send 257 0000803F00000000
@@ -356,7 +475,7 @@ fn mode_switch() {
         clock 20000000 => want send 2047 0100330A00000000
         sent => want clock
         clock 20000000 => want sleep 2000000
-        frame 20000000 0x11 0x1100330A02000000 8 0 => taken
+        frame 20000000 0x11 0x0100330A02000000 8 0 => taken
         slept => done
         mode 1 0 => want clock
         clock 20000000 => want clock
@@ -379,7 +498,7 @@ fn lent_calls() {
         lent frame 1 2 3 8 0 => bad line
         lent clock 5 => want send 2047 0100330A00000000
         lent patch 11 80 90 => patched 0
-        frame-lent 5 0x11 0x1100330A03000000 8 0 => taken
+        frame-lent 5 0x11 0x0100330A03000000 8 0 => taken
         lent lent sent => bad line
         lent sent => done u32 3
         session => session last 5 sequence 0 run 0 latest none replies 10 u32 3 5 acks",
@@ -395,13 +514,13 @@ fn mode_switch_that_fails() {
         clock 0 => want clock
         clock 0 => want clock
         clock 0 => want send 2047 0100330A00000000
-        frame 0 0x11 0x1100330AFFFFFFFF 8 0 => taken
+        frame 0 0x11 0x0100330AFFFFFFFF 8 0 => taken
         sent => want send 513 0000000000000000
         sent => want send 257 0000000000000000
         sent => want send 769 0000000000000000
         sent => want send 1 7FFF7FF0000007FF
         sent => want send 2047 0100550A03000000
-        frame 0 0x11 0x1100550A03000000 8 0 => taken
+        frame 0 0x11 0x0100550A03000000 8 0 => taken
         sent => want clock
         clock 0 => want clock
         clock 1 => want send 513 0000000000000000
@@ -421,7 +540,7 @@ fn mode_switch_that_fails() {
         sent => want send 257 0000000000000000
         sent => want send 769 0000000000000000
         sent => want send 1 7FFF7FF0000007FF
-        frame 0 0x11 0x1100550A04000000 8 0 => taken
+        frame 0 0x11 0x0100550A04000000 8 0 => taken
         sent => want send 2047 0100550A03000000
         sent => want clock
         clock 0 => want sleep 20000000
@@ -460,14 +579,14 @@ fn hold_positions_keep_their_bits() {
             send-timeout => want clock
             clock 0 => want clock
             clock 0 => want send 2047 FF04335000000000
-            frame 0 0x11 0xFF003350{bits} 8 0 => taken
+            frame 0 0x11 0xFF043350{bits} 8 0 => taken
             sent => want send 1791 0000000000000000
             sent => want send 1535 {held}00000000
             sent => want send 2047 {held}00000000
             sent => want send 1279 {mit}7FF0000007FF
             sent => want send 2047 FF04550A04000000
             sent => want clock
-            frame 0 0x11 0xFF00550A04000000 8 0 => taken
+            frame 0 0x11 0xFF04550A04000000 8 0 => taken
             clock 0 => want clock
             clock 0 => want send 2047 {held}00000000
             send-timeout => timeout"

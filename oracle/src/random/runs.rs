@@ -43,6 +43,8 @@ struct Temper {
     send_fails: u64,
     /// Other frames, patches, prints between the steps.
     noise: u64,
+    /// Before an answer comes one like it that is not this motor's.
+    foreign: u64,
     /// Answers and starts that are refused.
     blunders: u64,
     /// Lines since the last send after which the clock leaps on.
@@ -72,6 +74,7 @@ impl Temper {
             delay: rng.pick(&[0, 1, 3, 10, 60]),
             send_fails: rng.pick(&[0, 0, 0, 1, 5, 30]),
             noise: rng.pick(&[0, 0, 3, 15, 40]),
+            foreign: rng.pick(&[0, 0, 0, 3, 30]),
             blunders: rng.pick(&[0, 0, 2, 10]),
             patience: match rng.below(32) {
                 0 => 400,
@@ -93,6 +96,7 @@ impl Temper {
             early: rng.pick(&[0, 0, 0, 30]),
             delay: rng.pick(&[0, 1, 3]),
             send_fails: rng.pick(&[0, 1, 4]),
+            foreign: rng.pick(&[0, 0, 0, 10]),
             patience: rng.pick(&[6, 12, 25, 120]),
             steady: true,
             ..Temper::draw(rng)
@@ -129,6 +133,8 @@ pub struct Runs {
     slept: u64,
     /// The send that was already seen as a request.
     send_seen: bool,
+    /// The newest send that was wanted.
+    sent: (u32, [u8; 8]),
     /// What is to be answered, and after how many lines.
     asked: Option<(Asked, u64)>,
     /// Whether a write was wanted.
@@ -155,6 +161,7 @@ impl Runs {
             readings: [0; 4],
             slept: 0,
             send_seen: false,
+            sent: (0x7FF, [0; 8]),
             asked: None,
             written: false,
             mode_reads: 0,
@@ -305,6 +312,7 @@ impl Runs {
         if let Want::Send { id, data } = want {
             if !self.send_seen {
                 self.send_seen = true;
+                self.sent = (id, data);
                 self.acked = false;
                 self.opening = self.readings[3];
                 self.wait = self.wait_of(request(id, data));
@@ -326,7 +334,8 @@ impl Runs {
             return None;
         }
         let asked = *asked;
-        if rng.chance(90) {
+        let foreign = rng.chance(self.temper.foreign);
+        if !foreign && rng.chance(90) {
             self.asked = None; // else it is repeated
         }
         let right = rng.chance(match asked {
@@ -334,25 +343,26 @@ impl Runs {
             _ if self.written => self.temper.right,
             _ => self.temper.right_at_first,
         });
-        self.acked |= right && matches!(asked, Asked::Ack { .. });
-        let d0 = session.motor_id() as u8;
+        self.acked |= right && !foreign && matches!(asked, Asked::Ack { .. });
+        let motor = session.motor_id();
         let data = match asked {
             Asked::Reply { rid } => {
                 let bits = self.reply_bits(rng, session, rid, right);
                 let rid = if rng.chance(4) { values::rid(rng) } else { rid };
                 let marker = if rng.chance(4) { 0x55 } else { 0x33 };
-                values::register_data(rng, d0, marker, rid, bits)
+                values::register_data(motor, marker, rid, bits)
             }
             Asked::Ack { rid, bits } => {
                 let bits = if right { bits } else { other_bits(rng, bits) };
                 let rid = if rng.chance(4) { values::rid(rng) } else { rid };
                 let marker = if rng.chance(4) { 0x33 } else { 0x55 };
-                values::register_data(rng, d0, marker, rid, bits)
+                values::register_data(motor, marker, rid, bits)
             }
             Asked::State => state_data(rng, session),
         };
         let reading = stamp(rng, session);
-        Some(sessions::frame_with(rng, session, reading, data))
+        let foreign = if foreign { 100 } else { 0 };
+        Some(sessions::frame_with(rng, session, reading, data, foreign))
     }
 
     /// The value of a reply: the mode that a switch hopes for, or something else.
@@ -468,8 +478,9 @@ impl Runs {
             6 | 7 => {
                 let data = state_data(rng, session);
                 let reading = stamp(rng, session);
-                sessions::frame_with(rng, session, reading, data)
+                sessions::frame_with(rng, session, reading, data, 10)
             }
+            8 => self.echo(rng, session),
             _ => self.unasked(rng, session),
         }
     }
@@ -487,9 +498,16 @@ impl Runs {
             _ => self.reply_bits(rng, session, rid, right),
         };
         let marker = rng.pick(&[0x33, 0x33, 0x55, 0x55, 0x00]);
-        let data = values::register_data(rng, session.motor_id() as u8, marker, rid, bits);
+        let data = values::register_data(session.motor_id(), marker, rid, bits);
         let reading = stamp(rng, session);
-        sessions::frame_with(rng, session, reading, data)
+        sessions::frame_with(rng, session, reading, data, 10)
+    }
+
+    /// What the run sent last, or wants sent, heard by us too.
+    fn echo(&self, rng: &mut Rng, session: &Session) -> Vec<u8> {
+        let (id, data) = self.sent;
+        let reading = stamp(rng, session);
+        sessions::echo(rng, reading, id, data)
     }
 
     /// A call that is refused while this run is open, or may be; now and then a fresh session.

@@ -3,17 +3,20 @@
 use super::rng::Rng;
 use super::text::Text;
 use super::values;
+use crate::parser::Frame;
 use crate::session::Session;
-use motor_vendor_damiao::motor::adapter;
+use motor_vendor_damiao::motor::adapter::{self, FrameClass};
 
 const LAST_READING: u64 = 1 << 62;
 
 /// The start of a session, mostly accepted.
 pub fn start(rng: &mut Rng) -> Vec<u8> {
     let motor = values::motor_id(rng);
-    let feedback = match rng.below(4) {
-        0 => rng.next() as u16,
-        1 => 0x7FF,
+    let feedback = match rng.below(16) {
+        0..=2 => rng.next() as u16,
+        3..=5 => 0x7FF,
+        6 => values::motor_id(rng),
+        7 => motor,
         _ => motor.wrapping_add(0x10),
     };
     if rng.chance(50) {
@@ -99,18 +102,117 @@ pub fn frame_reading(rng: &mut Rng, last: u64) -> u64 {
     }
 }
 
-/// A frame with these data bytes, mostly as this motor sends it.
-pub fn frame_with(rng: &mut Rng, session: &Session, reading: u64, data: [u8; 8]) -> Vec<u8> {
-    let word = if rng.chance(50) {
-        "frame"
-    } else {
-        "frame-lent"
-    };
-    let text = Text::new(word).number(rng, reading);
-    finish_frame(rng, session, text, data)
+/// These data bytes in a frame as this motor sends it; in so many percent of the cases something else about
+/// the frame.
+pub fn frame_with(
+    rng: &mut Rng,
+    session: &Session,
+    reading: u64,
+    data: [u8; 8],
+    foreign: u64,
+) -> Vec<u8> {
+    let mut frame = plain(u32::from(session.feedback_id()), data);
+    if rng.chance(foreign) {
+        for _ in 0..rng.pick(&[1, 1, 1, 2, 3]) {
+            spoil(rng, session, &mut frame);
+        }
+    }
+    taken(rng, reading, frame)
 }
 
-fn finish_frame(rng: &mut Rng, session: &Session, text: Text, data: [u8; 8]) -> Vec<u8> {
+/// A frame that was sent to a motor, as it is.
+pub fn echo(rng: &mut Rng, reading: u64, id: u32, data: [u8; 8]) -> Vec<u8> {
+    taken(rng, reading, plain(id, data))
+}
+
+fn plain(id: u32, data: [u8; 8]) -> Frame {
+    Frame {
+        id,
+        data,
+        dlc: 8,
+        extended: false,
+    }
+}
+
+fn taken(rng: &mut Rng, reading: u64, frame: Frame) -> Vec<u8> {
+    let word = rng.pick(&["frame", "frame-lent"]);
+    let text = Text::new(word).number(rng, reading);
+    put_frame(rng, text, frame)
+}
+
+fn put_frame(rng: &mut Rng, text: Text, frame: Frame) -> Vec<u8> {
+    text.number(rng, frame.id)
+        .data(rng, frame.data)
+        .number(rng, frame.dlc)
+        .number(rng, frame.extended)
+        .bytes
+}
+
+/// One thing about a frame made such that the frame is not this motor's, mostly.
+fn spoil(rng: &mut Rng, session: &Session, frame: &mut Frame) {
+    match rng.below(8) {
+        0 => frame.extended = true,
+        1 => frame.dlc = values::other_length(rng),
+        2 | 3 => frame.id = other_id(rng, session),
+        _ => spoil_address(rng, &mut frame.data),
+    }
+}
+
+/// An id that is another than the feedback id, mostly.
+fn other_id(rng: &mut Rng, session: &Session) -> u32 {
+    let feedback = u32::from(session.feedback_id());
+    match rng.below(8) {
+        0 => rng.next() as u32,
+        1 => feedback ^ 1 << rng.below(32),
+        2 => u32::from(values::motor_id(rng)) + 0x10,
+        3 | 4 => u32::from(session.motor_id()),
+        _ => 0x7FF,
+    }
+}
+
+/// Another motor in d0, or in d0 and d1 of a reply or an ack.
+fn spoil_address(rng: &mut Rng, data: &mut [u8; 8]) {
+    let low_bits = 1 + rng.below(15) as u8;
+    if adapter::sort(data) == FrameClass::Feedback {
+        data[0] ^= low_bits;
+        return;
+    }
+    match rng.below(8) {
+        0 | 1 => data[0] ^= low_bits << 4, // its low four bits stay
+        2 => data[0] ^= low_bits,
+        3 => data[0] = data[0].wrapping_add(rng.pick(&[1, 0xFF])),
+        4 | 5 => data[1] = data[1].wrapping_add(rng.pick(&[1, 1, 0xFF])),
+        6 => data[1] = rng.below(0x11) as u8,
+        _ => (data[0], data[1]) = (rng.next() as u8, rng.below(0x10) as u8),
+    }
+}
+
+/// Any frame, mostly of this motor.
+pub fn frame(rng: &mut Rng, session: &Session) -> Vec<u8> {
+    let mut data = values::data(rng);
+    // What is not addressed is as a motor's position may look.
+    if rng.chance(94) {
+        data = addressed(data, session.motor_id());
+    }
+    let reading = frame_reading(rng, session.last());
+    frame_with(rng, session, reading, data, 20)
+}
+
+/// Data bytes with the motor's id where their class has it.
+fn addressed(mut data: [u8; 8], motor: u16) -> [u8; 8] {
+    let [low, high] = motor.to_le_bytes();
+    match adapter::sort(&data) {
+        FrameClass::Feedback => data[0] = data[0] & 0xF0 | low & 0x0F,
+        FrameClass::Reply | FrameClass::Ack => (data[0], data[1]) = (low, high),
+    }
+    data
+}
+
+fn accepts(rng: &mut Rng, session: &Session) -> Vec<u8> {
+    let mut data = rng.next().to_be_bytes();
+    if rng.chance(50) {
+        data[0] = data[0] & 0xF0 | session.motor_id() as u8 & 0x0F;
+    }
     let id = match rng.below(8) {
         0 => rng.next() as u32,
         1 => u32::from(session.motor_id()),
@@ -123,30 +225,13 @@ fn finish_frame(rng: &mut Rng, session: &Session, text: Text, data: [u8; 8]) -> 
         _ => 8,
     };
     let extended = rng.chance(8);
-    text.number(rng, id)
-        .data(rng, data)
-        .number(rng, dlc)
-        .number(rng, extended)
-        .bytes
-}
-
-/// Any frame.
-pub fn frame(rng: &mut Rng, session: &Session) -> Vec<u8> {
-    let mut data = values::data(rng);
-    if rng.chance(60) {
-        data[0] = data[0] & 0xF0 | session.motor_id() as u8 & 0x0F;
-    }
-    let reading = frame_reading(rng, session.last());
-    frame_with(rng, session, reading, data)
-}
-
-fn accepts(rng: &mut Rng, session: &Session) -> Vec<u8> {
-    let mut data = rng.next().to_be_bytes();
-    if rng.chance(50) {
-        data[0] = data[0] & 0xF0 | session.motor_id() as u8 & 0x0F;
-    }
-    let text = Text::new("accepts");
-    finish_frame(rng, session, text, data)
+    let frame = Frame {
+        id,
+        data,
+        dlc,
+        extended,
+    };
+    put_frame(rng, Text::new("accepts"), frame)
 }
 
 pub fn patch(rng: &mut Rng) -> Vec<u8> {
@@ -179,7 +264,7 @@ pub fn line(rng: &mut Rng, session: &Session) -> Vec<u8> {
             // A leap to the end of the clock.
             let data = values::data(rng);
             let reading = LAST_READING - rng.below(2);
-            frame_with(rng, session, reading, data)
+            frame_with(rng, session, reading, data, 10)
         }
         17 if rng.chance(15) => refused_start(rng),
         _ => frame(rng, session),

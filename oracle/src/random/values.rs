@@ -235,14 +235,18 @@ pub fn known_rid(rng: &mut Rng) -> u8 {
     REGISTER_TABLE[rng.below(REGISTER_TABLE.len() as u64) as usize].rid
 }
 
-/// Data of a register reply (0x33), a write ack (0x55), or nearly one.
-pub fn register_data(rng: &mut Rng, d0: u8, marker: u8, rid: u8, bits: u32) -> [u8; 8] {
+/// A length of a frame that is mostly not 8.
+pub fn other_length(rng: &mut Rng) -> u8 {
+    match rng.below(4) {
+        0 => rng.next() as u8,
+        _ => rng.pick(&[0, 7, 9]),
+    }
+}
+
+/// Data of this motor's register reply (0x33), of its write ack (0x55), or nearly one.
+pub fn register_data(motor: u16, marker: u8, rid: u8, bits: u32) -> [u8; 8] {
+    let [d0, d1] = motor.to_le_bytes();
     let [d4, d5, d6, d7] = bits.to_le_bytes();
-    let d1 = if rng.chance(60) {
-        0
-    } else {
-        rng.pick(&[0x0F, 0x0E, 0x01])
-    };
     [d0, d1, marker, rid, d4, d5, d6, d7]
 }
 
