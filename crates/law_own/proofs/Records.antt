@@ -14,7 +14,7 @@ use Rattle.protocol_feedback.specs.Feedback.{feedback_of}
 use Rattle.protocol_received.specs.Received.{class_of, by_class, received}
 use Rattle.protocol_received.specs.declared.FrameClass.{FrameClass}
 use Rattle.protocol_received.specs.declared.FrameClass.TheVariants as Class
-use Rattle.state_feedback.specs.Feedback.{state_of, patch_snapshot, update}
+use Rattle.state_feedback.specs.Feedback.{state_of, update, next_sequence}
 use Rattle.state_feedback.specs.declared.FeedbackCache.{FeedbackCache}
 use Rattle.state_feedback.specs.declared.FeedbackSnapshot.{FeedbackSnapshot}
 use Rattle.session.specs.declared.Session.{Session}
@@ -29,14 +29,9 @@ use Rattle.session_call.specs.declared.Returned.{Returned}
 use Rattle.law_calls.specs.Calls.{Event, event, events, session_after}
 use Rattle.law_calls.specs.Laws.{SameMotor, Leaves}
 use Rattle.law_calls.proofs.Laws.{laws}
-use Rattle.law_own.specs.Own.{is_foreign, is_feedback, own_feedback, hands_in, is_taken, NoFeedbackHandedIn, NoFeedbackTaken, measured, Condition, condition, number, set_by, condition_after, Reported}
+use Rattle.law_own.specs.Own.{is_foreign, is_feedback, own_feedback, hands_in, is_taken, NoFeedbackHandedIn, NoFeedbackTaken, measured, Condition, condition, number, set_by, condition_after, Reported, record_in, patched_by, patched_since}
 
--- what a patch makes of a record, and every other call
-abbrev patched_by : Call → FeedbackSnapshot → FeedbackSnapshot
-patched_by (Call.Start b) r = r
-patched_by (Call.Answer a) r = r
-patched_by (Call.Frame f t) r = r
-patched_by (Call.Patch status mos rotor) r = patch_snapshot r status mos rotor
+-- ---- a record and the patches
 
 measures_on : (c : Call) (r : FeedbackSnapshot) → measured (patched_by c r) ≡ measured r
 measures_on (Call.Start b) r = refl
@@ -55,6 +50,21 @@ number_on (Call.Start b) r = refl
 number_on (Call.Answer a) r = refl
 number_on (Call.Frame f t) r = refl
 number_on (Call.Patch status mos rotor) r = refl
+
+measured_since : (vs : List Event) (r : FeedbackSnapshot) → measured (patched_since r vs) ≡ measured r
+unfolding patched_since
+measured_since [] r = refl
+measured_since (v ∷ vs) r = measured_since vs (patched_by v.call r) ∙ measures_on v.call r
+
+conditions_since : (vs : List Event) (r : FeedbackSnapshot) → condition (patched_since r vs) ≡ condition_after (condition r) vs
+unfolding patched_since condition_after
+conditions_since [] r = refl
+conditions_since (v ∷ vs) r = conditions_since vs (patched_by v.call r) ∙ ap (λ (x : Condition). condition_after x vs) (conditions_on v.call r)
+
+number_since : (vs : List Event) (r : FeedbackSnapshot) → number (patched_since r vs) ≡ number r
+unfolding patched_since
+number_since [] r = refl
+number_since (v ∷ vs) r = number_since vs (patched_by v.call r) ∙ number_on v.call r
 
 -- the motor of a session in a list
 pub record Motor (motor feedback : ℕ) (l : PvTLimits) (s : Session) : Type 0 where
@@ -171,16 +181,15 @@ module _ (motor feedback : ℕ) (l : PvTLimits) where
   record Was (s : Session) (r : FeedbackSnapshot) (vs : List Event) : Type 0 where
     first : FeedbackSnapshot
     there : s.head.feedback.latest ≡ Some first
-    measures : measured r ≡ measured first
-    conditions : condition r ≡ condition_after (condition first) vs
+    is : r ≡ patched_since first vs
     is_last : NoFeedbackTaken motor feedback vs
 
   Came : Session → FeedbackSnapshot → List Event → Type 0
   Came s r vs = Was s r vs ⊎ Reported motor feedback l r vs
 
   came : (cs : List Call) (s : Session) → Motor motor feedback l s → (r : FeedbackSnapshot) → (session_after s cs).head.feedback.latest ≡ Some r → Came s r (events s cs)
-  unfolding session_after events condition_after NoFeedbackTaken Came
-  came [] s m r is = inl record { first = r; there = is; measures = refl; conditions = refl; is_last = tt }
+  unfolding session_after events patched_since NoFeedbackTaken Came
+  came [] s m r is = inl record { first = r; there = is; is = refl; is_last = tt }
   came (c ∷ cs) s m r is = go (does s m c) (came cs (step s c).session (motor_on s c m) r is)
     where
       -- a record before the call, by the one after it
@@ -192,28 +201,32 @@ module _ (motor feedback : ℕ) (l : PvTLimits) where
           record {
             first = first;
             there = e;
-            measures = w.measures ∙ ap measured (sym same) ∙ measures_on c first;
-            conditions = w.conditions ∙ ap (λ (x : Condition). condition_after x (events (step s c).session cs)) (ap condition (sym same) ∙ conditions_on c first);
+            is = w.is ∙ ap (λ (x : FeedbackSnapshot). patched_since x (events (step s c).session cs)) (sym same);
             is_last = (none, w.is_last);
           }
 
       go : Does s c → Came (step s c).session r (events (step s c).session cs) → Came s r (event s c ∷ events (step s c).session cs)
-      go d (inr x) = inr record { before = event s c ∷ x.before; event = x.event; later = x.later; frame = x.frame; reading = x.reading; whole = ap (λ (vs : List Event). event s c ∷ vs) x.whole; call = x.call; taken = x.taken; is_own = x.is_own; measures = x.measures; conditions = x.conditions; is_last = x.is_last }
+      go d (inr x) = inr record { before = event s c ∷ x.before; event = x.event; later = x.later; frame = x.frame; reading = x.reading; whole = ap (λ (vs : List Event). event s c ∷ vs) x.whole; call = x.call; taken = x.taken; is_own = x.is_own; is = x.is; measures = x.measures; conditions = x.conditions; is_last = x.is_last }
       go (leaves kept number none) (inl w) = inl (patched w kept none s.head.feedback.latest refl)
       go (reports f t call taken own became) (inl w) =
+          let later = events (step s c).session cs in
           let same = the_same _ w.first (sym (ap (λ (cache : FeedbackCache). cache.latest) became) ∙ w.there) in
+          let n = next_sequence s.head.feedback.sequence in
+          let is : r ≡ patched_since (record_in l f t n) later = w.is ∙ ap (λ (x : FeedbackSnapshot). patched_since x later) (sym same) in
+          let its_number : r.sequence ≡ n = ap number is ∙ number_since later (record_in l f t n) in
           inr record {
             before = [];
             event = event s c;
-            later = events (step s c).session cs;
+            later = later;
             frame = f;
             reading = t;
             whole = refl;
             call = call;
             taken = taken;
             is_own = own;
-            measures = w.measures ∙ ap measured (sym same);
-            conditions = w.conditions ∙ ap (λ (x : FeedbackSnapshot). condition_after (condition x) (events (step s c).session cs)) (sym same);
+            is = is ∙ ap (λ (k : ℕ). patched_since (record_in l f t k) later) (sym its_number);
+            measures = ap measured is ∙ measured_since later (record_in l f t n);
+            conditions = ap condition is ∙ conditions_since later (record_in l f t n);
             is_last = w.is_last;
           }
 

@@ -22,6 +22,7 @@ use Rattle.protocol_received.specs.declared.FrameClass.TheVariants as Class
 use Rattle.protocol_address.specs.Address.{own_frame}
 use Rattle.protocol_motor.specs.Motor.{feedback, register_reply, write_ack}
 use Rattle.protocol_motor.specs.declared.FeedbackFields.{FeedbackFields}
+use Rattle.state_feedback.specs.Feedback.{state_of, patch_snapshot}
 use Rattle.state_feedback.specs.declared.FeedbackSnapshot.{FeedbackSnapshot}
 use Rattle.state_cache.specs.declared.Entry.TheVariants.{Held}
 use Rattle.state_cache.specs.declared.Place.{Place}
@@ -84,7 +85,24 @@ unfoldable pub NoFeedbackTaken : ℕ → ℕ → List Event → Type 0
 NoFeedbackTaken motor feedback [] = Unit {0}
 NoFeedbackTaken motor feedback (v ∷ vs) = ((hands_in motor feedback v.call && is_taken v.returned) ≡ false) × NoFeedbackTaken motor feedback vs
 
--- ---- the record, in two parts: what a patch does not reach, but its number, and what it sets
+-- ---- the record
+
+-- that which a feedback makes, with a number
+abbrev pub record_in : PvTLimits → CanFrame → Instant → ℕ → FeedbackSnapshot
+record_in l f reading n = record { state = state_of f.arbitration_id (feedback_of l f.«data»); received_at = reading; sequence = n }
+
+-- and what the patches among calls make of it
+abbrev pub patched_by : Call → FeedbackSnapshot → FeedbackSnapshot
+patched_by (Call.Start start) r = r
+patched_by (Call.Answer answer) r = r
+patched_by (Call.Frame f reading) r = r
+patched_by (Call.Patch status mos rotor) r = patch_snapshot r status mos rotor
+
+unfoldable pub patched_since : FeedbackSnapshot → List Event → FeedbackSnapshot
+patched_since r [] = r
+patched_since r (v ∷ vs) = patched_since (patched_by v.call r) vs
+
+-- field by field, in two parts: what a patch does not reach, but the number, and what it sets
 
 pub record Measured : Type 0 where
   pub stamp : Instant
@@ -127,7 +145,7 @@ unfoldable pub condition_after : Condition → List Event → Condition
 condition_after x [] = x
 condition_after x (v ∷ vs) = condition_after (set_by v.call x) vs
 
--- The record `r` came by a frame that was taken, is this motor's, and is feedback; none such was taken after it. Its stamp is that frame's reading.
+-- The record `r` came by a frame that was taken, is this motor's, and is feedback; none such was taken after it. Its stamp is that frame's reading. It is that frame's record with the patches since, in every field but the number; in words stamp, ids, position, velocity and torque are that frame's, status, its name and temperatures that frame's or the last patch's since.
 pub record Reported (motor feedback : ℕ) (l : PvTLimits) (r : FeedbackSnapshot) (vs : List Event) : Type 0 where
   pub before : List Event
   pub event : Event
@@ -138,6 +156,7 @@ pub record Reported (motor feedback : ℕ) (l : PvTLimits) (r : FeedbackSnapshot
   pub call : event.call ≡ Call.Frame frame reading
   pub taken : event.returned ≡ Returned.Frame (Ok tt)
   pub is_own : own_feedback motor feedback frame ≡ true
+  pub is : r ≡ patched_since (record_in l frame reading r.sequence) later
   pub measures : measured r ≡ measured_in frame reading (feedback_of l frame.«data»)
   pub conditions : condition r ≡ condition_after (condition_in (feedback_of l frame.«data»)) later
   pub is_last : NoFeedbackTaken motor feedback later
