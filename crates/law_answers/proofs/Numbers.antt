@@ -161,18 +161,23 @@ by_width f =
     last : (n most : ℕ) → not (leb n most && true) ≡ ltb most n
     last n most = ap not (and-true (leb n most)) ∙ above n most
 
-by_class : (f : FeedbackFields) → Narrow f → refused (unless_register (feedback_class f) (feedback_data f)) ≡ first (Table.register_like_row f ∷ [])
+-- what a register's frame comes to, reply or ack alike, and what feedback, by the tests that sort
+by_sorting : {A : Type 0} (of : FrameClass → A) (register feedback : A) → of Class.Reply ≡ register → of Class.Ack ≡ register → of Class.Feedback ≡ feedback
+    → (d1 d2 d3 : ℕ) → of (class registers d1 d2 d3) ≡ cond (Table.of_register d1 d2 d3) register feedback
 unfolding class
-by_class f narrow = ap (λ (k : FrameClass). refused (unless_register k (feedback_data f))) (refusals.by_codes f narrow) ∙ go (leb (f.pos / 256) 0x0f) (eqb (f.pos % 256) 0x33) (eqb (f.pos % 256) 0x55) (elem (f.vel / 16) registers)
+by_sorting {A} of register feedback reply ack other d1 d2 d3 = go (leb d1 0x0f) (eqb d2 0x33) (eqb d2 0x55) (elem d3 registers)
   where
-    go : (low reply ack register : Bool) → refused (unless_register (cond (low && (reply && register)) Class.Reply (cond (low && (ack && register)) Class.Ack Class.Feedback)) (feedback_data f)) ≡ cond (low && ((reply || ack) && register)) 13 0
-    go false reply ack register = refl
-    go true true ack true = refl
-    go true true true false = refl
-    go true true false false = refl
-    go true false true true = refl
-    go true false true false = refl
-    go true false false register = refl
+    go : (low replies acks known : Bool) → of (by_tests low replies acks known) ≡ cond (low && ((replies || acks) && known)) register feedback
+    go false replies acks known = other
+    go true true acks true = reply
+    go true true true false = other
+    go true true false false = other
+    go true false true true = ack
+    go true false true false = other
+    go true false false known = other
+
+by_class : (f : FeedbackFields) → Narrow f → refused (unless_register (feedback_class f) (feedback_data f)) ≡ first (Table.register_like_row f ∷ [])
+by_class f narrow = ap (λ (k : FrameClass). refused (unless_register k (feedback_data f))) (refusals.by_codes f narrow) ∙ by_sorting (λ (k : FrameClass). refused (unless_register k (feedback_data f))) 13 0 refl refl refl (f.pos / 256) (f.pos % 256) (f.vel / 16)
 
 by_feedback : (f : FeedbackFields) → refused (feedback f) ≡ Table.feedback_sent f
 unfolding feedback
@@ -320,24 +325,14 @@ by_answer s a = stepped (answer_step s.head (entry s) s.run a) ∙ go s.run a
 
 -- this motor's frame fails none of the tests
 by_own : (h : Head) (f : CanFrame) → not (own_frame h.motor_id h.feedback_id f) ≡ Table.foreign h f
-unfolding own_frame class
-by_own h f = whole f.is_extended (eqb f.dlc 8) (eqb f.arbitration_id h.feedback_id) _ _ (by_sorting (leb (d f.«data» 1) 0x0f) (eqb (d f.«data» 2) 0x33) (eqb (d f.«data» 2) 0x55) (elem (d f.«data» 3) registers))
+unfolding own_frame
+by_own h f = whole f.is_extended (eqb f.dlc 8) (eqb f.arbitration_id h.feedback_id) _ _ (by_sorting (λ (k : FrameClass). not (names_motor h.motor_id k f.«data»)) _ _ (of_two _ _) (of_two _ _) refl (d f.«data» 1) (d f.«data» 2) (d f.«data» 3))
   where
     whole : (extended length id named other : Bool) → not named ≡ other → not ((not extended && (length && id)) && named) ≡ (extended || (not length || (not id || other)))
     whole true length id named other e = refl
     whole false false id named other e = refl
     whole false true false named other e = refl
     whole false true true named other e = e
-
-    -- by the tests that sort it
-    by_sorting : (low reply ack register : Bool) → not (names_motor h.motor_id (by_tests low reply ack register) f.«data») ≡ cond (low && ((reply || ack) && register)) (not (eqb (d f.«data» 0) (h.motor_id % 256)) || not (eqb (d f.«data» 1) (h.motor_id / 256))) (not (eqb (d f.«data» 0 % 16) (h.motor_id % 16)))
-    by_sorting false reply ack register = refl
-    by_sorting true true ack true = of_two _ _
-    by_sorting true true true false = refl
-    by_sorting true true false false = refl
-    by_sorting true false true true = of_two _ _
-    by_sorting true false true false = refl
-    by_sorting true false false register = refl
 
 by_frame_taken : (s : Session) (f : CanFrame) (t : Instant) → refused (take_frame s f t).told ≡ Table.frame_taken s f t
 unfolding take_frame

@@ -6,6 +6,7 @@ use mathlib.Core.Bool.{Bool}
 use mathlib.Core.List.{List, [], ◌∷◌, ◌++◌}
 use native.Mathlib.Omega.{arith}
 use Rattle.std.proofs.lemmas.Option.{none-some}
+use Rattle.motor_core.specs.declared.bus.CanFrame.{CanFrame}
 use Rattle.state_feedback.specs.declared.FeedbackSnapshot.{FeedbackSnapshot}
 use Rattle.run_want.specs.declared.Answer.{Answer}
 use Rattle.run_want.specs.declared.Want.{Want}
@@ -19,7 +20,6 @@ use Rattle.session_call.specs.declared.Returned.{Returned}
 use Rattle.state_cache.specs.declared.Entry.{Entry}
 use Rattle.state_cache.specs.declared.Place.{Place}
 use Rattle.law_calls.specs.Calls.{Event, event, events, session_after, Answered}
-use Rattle.motor_core.specs.declared.bus.CanFrame.{CanFrame}
 use Rattle.law_calls.specs.Places.{brings, replaced, last_taken, Sees, seen_after, seen_with}
 use Rattle.law_calls.specs.Turns.{Gave, Turn, turn, turn_in, turn_of, add_turn, turns, result_in, result_of, gaves, count}
 

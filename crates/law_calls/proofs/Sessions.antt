@@ -12,6 +12,7 @@ use Rattle.registers.specs.declared.RegisterValue.{RegisterValue}
 use Rattle.protocol_received.specs.Received.{class_of, by_class, received}
 use Rattle.protocol_received.specs.declared.FrameClass.{FrameClass}
 use Rattle.protocol_received.specs.declared.FrameClass.TheVariants as Class
+use Rattle.protocol_address.specs.Address.{own_frame}
 use Rattle.state_cache.specs.declared.Entry.{Entry}
 use Rattle.state_cache.specs.declared.Entry.TheVariants.{Held}
 use Rattle.state_cache.specs.declared.Place.{Place}
@@ -23,7 +24,6 @@ use Rattle.session.specs.declared.Head.{Head}
 use Rattle.session.specs.declared.Session.{Session}
 use Rattle.session_frame.proofs.Effects as Frame
 use Rattle.session_frame.proofs.Outcomes as Outcomes
-use Rattle.protocol_address.specs.Address.{own_frame}
 use Rattle.session_frame.proofs.Brought.{if_taken, of_register, slot_with}
 use Rattle.session_frame.specs.Frame.{FrameOutcome, frame_outcome, reply_of, ack_of, says, take_frame}
 use Rattle.session_answer.proofs.Effects.{answer_keeps, answer_last, answer_refused}

@@ -71,16 +71,19 @@ written_feedback motor other f n is e =
     (λ i. eqb_refl other i && names_motor motor ((ap (λ (w : ℕ). class_of (data_bytes w)) (sym same) ∙ class) i) (data_bytes n)) ∙ named
 
 -- ---- echoes
-pub read_echo : (motor other rid : ℕ) (c : Command) → known rid ≡ true → register_read_cmd motor rid ≡ Ok c → own_frame motor other (sent_on c.arbitration_id c.«data») ≡ eqb c.arbitration_id other
-unfolding frame_for register_read_data
-read_echo motor other rid c listed e =
-    let (accepted, is) = let_through (command request_id (register_read_data motor rid)) c MotorId (motor_id_accepted motor) e in
-    subst (λ (c : Command). own_frame motor other (sent_on c.arbitration_id c.«data») ≡ eqb c.arbitration_id other) is
-    (register_own true motor rid 0 (leb-true motor 0x4ff accepted) listed request_id other)
+module _ (motor other rid : ℕ) (listed : known rid ≡ true) (c : Command) where
+  -- of a request whose bytes are a register's frame
+  echo : (reply : Bool) (bits : ℕ) → frame_for motor request_id (register_data (marker_of reply) motor rid bits) ≡ Ok c → own_frame motor other (sent_on c.arbitration_id c.«data») ≡ eqb c.arbitration_id other
+  unfolding frame_for
+  echo reply bits e =
+      let (accepted, is) = let_through (command request_id (register_data (marker_of reply) motor rid bits)) c MotorId (motor_id_accepted motor) e in
+      subst (λ (c : Command). own_frame motor other (sent_on c.arbitration_id c.«data») ≡ eqb c.arbitration_id other) is
+      (register_own reply motor rid bits (leb-true motor 0x4ff accepted) listed request_id other)
 
-pub write_echo : (motor other rid bits : ℕ) (c : Command) → known rid ≡ true → register_write_cmd motor rid bits ≡ Ok c → own_frame motor other (sent_on c.arbitration_id c.«data») ≡ eqb c.arbitration_id other
-unfolding frame_for register_write_data
-write_echo motor other rid bits c listed e =
-    let (accepted, is) = let_through (command request_id (register_write_data motor rid bits)) c MotorId (motor_id_accepted motor) e in
-    subst (λ (c : Command). own_frame motor other (sent_on c.arbitration_id c.«data») ≡ eqb c.arbitration_id other) is
-    (register_own false motor rid bits (leb-true motor 0x4ff accepted) listed request_id other)
+  pub read_echo : register_read_cmd motor rid ≡ Ok c → own_frame motor other (sent_on c.arbitration_id c.«data») ≡ eqb c.arbitration_id other
+  unfolding register_read_data
+  read_echo = echo true 0
+
+  pub write_echo : (bits : ℕ) → register_write_cmd motor rid bits ≡ Ok c → own_frame motor other (sent_on c.arbitration_id c.«data») ≡ eqb c.arbitration_id other
+  unfolding register_write_data
+  write_echo = echo false

@@ -67,6 +67,6 @@ own = record {
   written_feedback = λ s t accepted f n is e. taken_if s _ t accepted (written_feedback s.head.motor_id s.head.feedback_id f n is e);
   written_reply = λ s t accepted rid bits n e. taken_if s _ t accepted (written_register true s.head.motor_id s.head.feedback_id rid bits n e);
   written_ack = λ s t accepted rid bits n e. taken_if s _ t accepted (written_register false s.head.motor_id s.head.feedback_id rid bits n e);
-  read_echo = λ s rid c listed e. read_echo s.head.motor_id s.head.feedback_id rid c listed e;
-  write_echo = λ s rid bits c listed e. write_echo s.head.motor_id s.head.feedback_id rid bits c listed e;
+  read_echo = λ s rid c listed. read_echo s.head.motor_id s.head.feedback_id rid listed c;
+  write_echo = λ s rid bits c listed. write_echo s.head.motor_id s.head.feedback_id rid listed c bits;
 }

@@ -117,8 +117,8 @@ pub record Worked : Type 0 where
   -- an echo on 0x7FF is an ack only where feedback comes on 0x7FF too
   pub echo_refused : answer s₀ echo 5 ≡ turns_away
   pub echo_taken : held (step (session 1 0x7FF) (frame echo 5)).session (Ack 10) ≡ Held (UInt32 3) (record { 0 = 5 })
-  -- what no test tells: motor 17's feedback on motor 1's id, and motor 1's own that reads as a reply
-  pub alike_taken : answer s₀ (on 0x11 (with_status 0x11)) 5 ≡ takes
+  -- what no test tells: a feedback that is motor 17's too where that has the same feedback id, and motor 1's own that reads as a reply
+  pub alike_taken : answer (session 17 0x11) own 5 ≡ takes
   pub read_as_reply : ten_after s₀ (sent_on 0x11 (feedback_data reply_like)) ≡ Held (UInt32 0x281E_FF07) (record { 0 = 5 })
   -- the four bits that the Rust compares do not tell the stranger; its frames leave record, last reading and caches
   pub accepted_by_the_rust : frame_accepted 1 0x11 stranger ≡ true
