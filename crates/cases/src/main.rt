@@ -98,7 +98,7 @@ fn shown(rt: &impl Print) {
     };
     text(rt, b"nearest to 12.5, 20, 28, as they are shown:");
     match suggest_models_by_limits(&damiao_models(), query, 16) {
-        Ok(names) => words(rt, &display_models(&names)),
+        Ok(names) => words(rt, &display_models(names.as_slice())),
         Err(refusal) => put_refused(rt, refusal),
     }
     text(rt, b"\n");
@@ -111,7 +111,7 @@ fn shown_once(rt: &impl Print) {
     names.push(Name::new(b"4340_v20"));
     names.push(Name::new(b"4340X"));
     text(rt, b"4340X 4340_v20 4340X are shown as:");
-    words(rt, &display_models(&names));
+    words(rt, &display_models(names.as_slice()));
     text(rt, b"\n");
 }
 

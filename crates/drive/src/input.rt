@@ -5,12 +5,13 @@ use crate::BUFFER;
 use script::MAX_LINE;
 use std::io::{Print, Read};
 
-// A line without its newline, and its number, from 1 on. Of a line that is too long the text may lack
-// bytes, and is too long too.
+// A line without its newline, and its number, from 1 on. Of a line that is known to be too long the text
+// lacks bytes.
 #[derive(Clone, Copy)]
 pub(crate) struct Line<'a> {
     pub(crate) text: &'a [u8],
     pub(crate) number: u64,
+    pub(crate) is_long: bool,
 }
 
 // The bytes that are read and not taken lie from `next` to `filled`, in a fixed buffer as a page is.
@@ -21,6 +22,8 @@ pub(crate) struct Input {
     filled: usize,
     ghost ordered: { next ≤ filled },
     ghost within: { filled ≤ length bytes },
+    // whether they go on a line that is too long, of which the bytes before them are dropped
+    is_long: bool,
     is_over: bool,
     lines: u64,
 }
@@ -31,6 +34,7 @@ impl Input {
             bytes: [0; BUFFER],
             next: 0,
             filled: 0,
+            is_long: false,
             is_over: false,
             lines: 0,
         }
@@ -49,9 +53,12 @@ impl Input {
             .position(|byte| *byte == b'\n')?;
         self.next += length + 1;
         self.lines = self.lines.wrapping_add(1);
+        let is_long = self.is_long;
+        self.is_long = false;
         Some(Line {
             text: &self.bytes[from..from + length],
             number: self.lines,
+            is_long,
         })
     }
 
@@ -74,12 +81,19 @@ impl Input {
         }
     }
 
-    // Moves the unfinished line to the front; of one that is too long so many bytes that it still is.
+    // Moves the unfinished line to the front; of one that is too long no byte is kept, so that a read has the
+    // whole buffer and its bytes are gone through once.
     fn keep_rest(&mut self)
         ensures { self.new.filled < length self.new.bytes }
     {
-        let length = (self.filled - self.next).min(MAX_LINE + 1);
-        self.bytes.copy_within(self.next..self.next + length, 0);
+        let length = self.filled - self.next;
+        if self.is_long || length > MAX_LINE {
+            self.is_long = true;
+            self.next = 0;
+            self.filled = 0;
+            return;
+        }
+        self.bytes.copy_within(self.next..self.filled, 0);
         self.next = 0;
         self.filled = length;
     }

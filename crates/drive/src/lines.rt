@@ -4,6 +4,7 @@ use crate::answer::answer;
 use crate::input::{Input, Line, complain};
 use crate::notes::put_note;
 use crate::page::Page;
+use script::Fault;
 use session::Session;
 use std::io::{Print, Read};
 
@@ -42,7 +43,12 @@ pub(crate) fn run(stdin: &mut impl Read, stdout: &impl Print, stderr: &impl Prin
 
 // A call's answer, and why a line is bad.
 fn answer_line(answers: &mut Page, notes: &mut Page, session: &mut Option<Session>, line: Line) {
-    match script::parse(line.text) {
+    let call = if line.is_long {
+        Err(Fault::LongLine)
+    } else {
+        script::parse(line.text)
+    };
+    match call {
         Ok(Some(call)) => {
             if let Err(refusal) = answer(answers, session, call, line.text) {
                 answers.put_refused(refusal);

@@ -1,15 +1,63 @@
--- The names shown so far, with the next. Assumes nothing.
-use Prim.Native.Nat.{ℕ, ◌+◌, ◌≤◌, ◌<◌}
-use mathlib.Core.Path.{◌≡◌, refl, ap, ◌∙◌}
+-- The names shown so far, with the next, as many as there are places for. Assumes nothing.
+use Rattle.std.specs.Prelude.{ℕ, ◌+◌, ◌≤◌, ◌<◌, ltb}
+use mathlib.Core.Path.{◌≡◌, refl, sym, ap, ◌∙◌}
 use mathlib.Core.Bool.{Bool, true, false, cond}
 use mathlib.Core.List.{List, [], ◌∷◌, ◌++◌}
-use native.Mathlib.Nat.{le_of_eq, le-add_right}
+use native.Mathlib.Nat.{le_refl, le_of_eq, le-add_right}
+use native.Mathlib.Omega.{arith}
+use borrow.Author.Tests.{ltb-true, ltb-false}
 use lib.ListN.{length, take, get_or, length-append}
-use Rattle.std.proofs.lemmas.List.{take_more}
+use Rattle.std.proofs.lemmas.List.{take_more, take_all, take-take, take-append-le, length-take-le}
 use Rattle.motor_core.specs.declared.name.Name.{Name}
+use Rattle.model_list.specs.Places.{model_places, put_last}
 use Rattle.model_shown.specs.Display.{display_name, among, with_name, display_after}
 
-pub with_length : (names : List Name) (name : Name) → length (with_name names name) ≤ length names + 1
+-- where no place is left, the next name changes nothing
+full : (names : List Name) (name : Name) → model_places ≤ length names → take model_places (with_name names name) ≡ take model_places names
+unfolding with_name
+full names name h = by (among name names)
+  where
+    by : (b : Bool) → take model_places (cond b names (names ++ (name ∷ []))) ≡ take model_places names
+    by true = refl
+    by false = take-append-le model_places names (name ∷ []) h
+
+-- a name that is there already, and one that is new
+pub there : (names : List Name) (name : Name) → among name names ≡ true → length names ≤ model_places → names ≡ take model_places (with_name names name)
+unfolding with_name
+there names name is room = sym (ap (λ (b : Bool). take model_places (cond b names (names ++ (name ∷ [])))) is ∙ take_all model_places names room)
+
+pub new : (names : List Name) (name : Name) → among name names ≡ false → length names ≤ model_places → put_last names name ≡ take model_places (with_name names name)
+unfolding with_name put_last
+new names name is room = put (ltb (length names) model_places) refl ∙ sym (ap (λ (b : Bool). take model_places (cond b names (names ++ (name ∷ [])))) is)
+  where
+    put : (b : Bool) → ltb (length names) model_places ≡ b → cond b (names ++ (name ∷ [])) names ≡ take model_places (names ++ (name ∷ []))
+    put true h = sym (take_all model_places (names ++ (name ∷ [])) (omega (arith, length-append names (name ∷ []), ltb-true (length names) model_places h)))
+    put false h = sym (take_all model_places names room) ∙ sym (take-append-le model_places names (name ∷ []) (ltb-false (length names) model_places h))
+
+-- of the names so far those that have places say which the next ones are
+kept : (names : List Name) (name : Name) → take model_places (with_name (take model_places names) name) ≡ take model_places (with_name names name)
+kept names name = by (ltb (length names) model_places) refl
+  where
+    by : (b : Bool) → ltb (length names) model_places ≡ b → take model_places (with_name (take model_places names) name) ≡ take model_places (with_name names name)
+    by true h = ap (λ (xs : List Name). take model_places (with_name xs name)) (take_all model_places names (omega (arith, ltb-true (length names) model_places h)))
+    by false h =
+        full (take model_places names) name (omega (arith, length-take-le model_places names (ltb-false (length names) model_places h)))
+        ∙ take-take model_places model_places names (le_refl model_places)
+        ∙ sym (full names name (ltb-false (length names) model_places h))
+
+display_append : (shown names : List Name) (name : Name) → display_after shown (names ++ (name ∷ [])) ≡ with_name (display_after shown names) (display_name name)
+unfolding display_after
+display_append shown [] name = refl
+display_append shown (x ∷ names) name = display_append (with_name shown (display_name x)) names name
+
+pub display_next : (names : List Name) (i : ℕ) (d : Name) → i < length names → take model_places (display_after [] (take (i + 1) names)) ≡ take model_places (with_name (take model_places (display_after [] (take i names))) (display_name (get_or names i d)))
+display_next names i d h =
+    ap (λ (xs : List Name). take model_places (display_after [] xs)) (take_more names i d h)
+    ∙ ap (take model_places) (display_append [] (take i names) (get_or names i d))
+    ∙ sym (kept (display_after [] (take i names)) (display_name (get_or names i d)))
+
+-- no more names are shown than there are
+with_length : (names : List Name) (name : Name) → length (with_name names name) ≤ length names + 1
 unfolding with_name
 with_length names name = by (among name names)
   where
@@ -17,10 +65,10 @@ with_length names name = by (among name names)
     by true = le-add_right (length names) 1
     by false = le_of_eq (length-append names (name ∷ []))
 
-display_append : (shown names : List Name) (name : Name) → display_after shown (names ++ (name ∷ [])) ≡ with_name (display_after shown names) (display_name name)
+display_length : (shown names : List Name) → length (display_after shown names) ≤ length shown + length names
 unfolding display_after
-display_append shown [] name = refl
-display_append shown (x ∷ names) name = display_append (with_name shown (display_name x)) names name
+display_length shown [] = le-add_right (length shown) 0
+display_length shown (name ∷ names) = omega (arith, display_length (with_name shown (display_name name)) names, with_length shown (display_name name))
 
-pub display_next : (names : List Name) (i : ℕ) (d : Name) → i < length names → display_after [] (take (i + 1) names) ≡ with_name (display_after [] (take i names)) (display_name (get_or names i d))
-display_next names i d h = ap (display_after []) (take_more names i d h) ∙ display_append [] (take i names) (get_or names i d)
+pub all_kept : (names : List Name) → length names ≤ model_places → take model_places (display_after [] names) ≡ display_after [] names
+all_kept names few = take_all model_places (display_after [] names) (omega (arith, display_length [] names, few))

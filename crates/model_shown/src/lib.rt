@@ -1,7 +1,7 @@
 // Models' names as they are shown to people.
 #![tactic(auto)]
 
-ghost use Rattle.std.specs.Prelude.{◌≡◌, ◌<◌, [], length};
+ghost use Rattle.std.specs.Prelude.{◌≡◌, ◌≤◌, [], length, take};
 ghost use Rattle.model_list.specs.Counted.{model_places};
 ghost use Rattle.model_shown.specs.Display as Spec;
 
@@ -18,24 +18,24 @@ pub fn display_model_name(model: Name) -> Name
     model
 }
 
-// Puts a name last, unless it is there.
-#[tactic(auto, unfolding(crate::specs::Display::among, crate::specs::Display::with_name, model_list::specs::Places::put_last))]
+// Puts a name last, unless it is there or no place is left.
+#[tactic(auto, using(crate::proofs::Shown::there, crate::proofs::Shown::new), unfolding(crate::specs::Display::among))]
 fn show(shown: &mut Names, name: Name)
-    requires { length shown.old < model_places }
-    ensures { shown.new ≡ Spec.with_name shown.old name }
+    ensures { shown.new ≡ take model_places (Spec.with_name shown.old name) }
 {
     if !shown.as_slice().contains(&name) {
         shown.push(name);
     }
 }
 
-// The models' names as they are shown, each once.
-#[tactic(auto, using(crate::proofs::Shown::display_next, crate::proofs::Shown::with_length), unfolding(crate::specs::Display::display_after))]
-pub fn display_models(models: &Names) -> Names
-    ensures { result ≡ Spec.display_after [] models.now }
+// The models' names as they are shown, each once, as many as an answer has places for.
+#[tactic(auto, using(crate::proofs::Shown::display_next, crate::proofs::Shown::all_kept), unfolding(crate::specs::Display::display_after))]
+pub fn display_models(models: &[Name]) -> Names
+    ensures shown { result ≡ take model_places (Spec.display_after [] models.now) }
+    ensures all { length models.now ≤ model_places → result ≡ Spec.display_after [] models.now }
 {
     let mut shown = Names::new();
-    for model in models.as_slice() {
+    for model in models {
         show(&mut shown, display_model_name(*model));
     }
     shown

@@ -43,7 +43,7 @@ pub const ACK: u8 = 0x55;
 fn marks_register(d1: u8, d2: u8) -> bool
     ensures { result ≡ (leb d1 0x0f && (eqb d2 0x33 || eqb d2 0x55)) }
 {
-    d1 <= 0x0f && (d2 == REPLY || d2 == ACK)
+    d1 <= 0x0f && ((d2 == REPLY) | (d2 == ACK))
 }
 
 // The register is looked up once, for the class and for the type.

@@ -1,5 +1,7 @@
 -- Laws of `specs/Number.antt`'s numbers and fields, by the tests of the code. Assumes nothing.
 use Rattle.std.proofs.Common.{◌≡◌, ℕ, length, List, [], ◌∷◌, refl, Some, None, ◌≤◌, ◌<◌, cond, take, drop}
+use Rattle.std.specs.Prelude.{Option}
+use mathlib.Core.Path.{sym, ap, ◌∙◌}
 use Rattle.std.specs.Str.{bytes_eq}
 use mathlib.Core.Bool.{and-false, and-true}
 use borrow.Author.Tests.{le-leb, lt-leb}
@@ -47,3 +49,7 @@ unfolding at_most
 bad limit = refl
 
 pub ruleset field_rules = (a_name, no_name, a_number, within, beyond, bad)
+
+-- a field by its kind itself
+pub by_kind : {kind of_kind : Kind} {read : Option ℕ} (word : List ℕ) → of_kind ≡ kind → read ≡ field_of of_kind word → field_of kind word ≡ read
+by_kind word same is = sym (is ∙ ap (λ (k : Kind). field_of k word) same)

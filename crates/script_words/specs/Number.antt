@@ -40,6 +40,16 @@ number_of (a ∷ []) = digits_of 10 (a ∷ [])
 number_of (a ∷ (b ∷ rest)) =
     cond (eqb a (code "0") && eqb b (code "x")) (digits_of 16 rest) (digits_of 10 (a ∷ (b ∷ rest)))
 
+-- the kind that a letter stands for
+unfoldable pub kind_of : ℕ → Kind
+kind_of letter =
+    cond (eqb letter (code "f")) Flag
+    (cond (eqb letter (code "b")) U8
+    (cond (eqb letter (code "i")) U16
+    (cond (eqb letter (code "w")) U32
+    (cond (eqb letter (code "n")) Name
+    U64))))
+
 -- the largest number of a field
 unfoldable pub limit_of : Kind → ℕ
 limit_of Flag = 1

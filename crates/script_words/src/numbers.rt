@@ -1,8 +1,26 @@
 // A word as a number.
 ghost use Rattle.std.specs.Prelude.{◌≡◌, ◌≤◌};
-ghost use Rattle.script_words.specs.Number.{digits_of, number_of, limit_of, field_of};
+ghost use Rattle.script_words.specs.Number.{digits_of, number_of, kind_of, limit_of, field_of};
+ghost use Rattle.script_words.specs.declared.Kind.{Kind};
 
 use crate::Kind;
+
+// The kind that a letter stands for: `f` a flag, `b` 8 bits, `i` 16, `w` 32, `n` a name, and any other 64.
+impl From<u8> for Kind {
+    ghost from_gives = { λ letter kind. kind ≡ kind_of letter };
+
+    #[tactic(auto, unfolding(crate::specs::Number::kind_of))]
+    fn from(letter: u8) -> Kind {
+        match letter {
+            b'f' => Kind::Flag,
+            b'b' => Kind::U8,
+            b'i' => Kind::U16,
+            b'w' => Kind::U32,
+            b'n' => Kind::Name,
+            _ => Kind::U64,
+        }
+    }
+}
 
 impl Kind {
     // The largest number of a field of this kind.
@@ -51,11 +69,12 @@ pub fn number(word: &[u8]) -> Option<u64>
     }
 }
 
-// An argument of this kind: a name's length, or a number within its field.
+// An argument of this kind, or of the kind of this letter: a name's length, or a number within its field.
 #[tactic(auto, using(crate::proofs::Fields::field_rules))]
-pub fn field(kind: Kind, word: &[u8]) -> Option<u64>
-    ensures { result ≡ field_of kind word.now }
+pub fn field<K: Into<Kind>>(kind: K, word: &[u8]) -> Option<u64>
+    ensures { (of_kind : Kind) × K.converts kind of_kind × (result ≡ field_of of_kind word.now) }
 {
+    let kind: Kind = kind.into();
     match kind {
         Kind::Name => (!word.is_empty()).then_some(word.len() as u64),
         _ => number(word).filter(|value| *value <= kind.limit()),

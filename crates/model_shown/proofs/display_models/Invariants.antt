@@ -1,9 +1,9 @@
-use Prim.Native.Nat.{◌≤◌}
 use mathlib.Core.Path.{◌≡◌}
 use mathlib.Core.List.{[]}
-use lib.ListN.{length, take}
+use lib.ListN.{take}
+use Rattle.model_list.specs.Places.{model_places}
 use Rattle.model_shown.specs.Display as Spec
 use Rattle.model_shown.proofs.display_models.Given as goal
 
 abbrev pub invariant-loop-model : goal.invariant-loop-model
-invariant-loop-model l = (length l.shown ≤ l.model-index) × (l.shown ≡ Spec.display_after [] (take l.model-index l.model-items))
+invariant-loop-model l = l.shown ≡ take model_places (Spec.display_after [] (take l.model-index l.models))

@@ -1,4 +1,5 @@
 -- `script::lines::call_of` meets its contract. The invariant: what is left are the words after those that the loop took. Assumes nothing.
+use Rattle.script_words.proofs.Fields.{by_kind}
 use Rattle.std.proofs.Common.{◌∙◌, rules, tests, eqb, drop, List, arith, sym, ap, length-set, replicate}
 use Rattle.std.proofs.lemmas.Iterator.Splits.{YieldsList-from_slice_split}
 use Rattle.std.proofs.lemmas.Iterator.Consumers.{YieldsList-from_enumerate}
@@ -45,7 +46,7 @@ pub returns-in_default-field : goal.returns-in_default-field
 returns-in_default-field c =
     let l = c.loop-place in
     let t = turn _ _ _ _ c.next.new.self (c.in-Some-2.place, c.in-Some-2.word) l.invariant.words c.in-Some-2.ensures.steps in
-    sym (l.invariant.call ∙ wrong _ _ _ _ _ _ _ _ _ _ c.in-Some-next.ensures.steps t.1 _ (omega arith) (omega arith) (sym c.field.ensures ∙ c.in_default-field.is))
+    sym (l.invariant.call ∙ wrong _ _ _ _ _ _ _ _ _ _ c.in-Some-next.ensures.steps t.1 _ (omega arith) (omega arith) (by_kind _ c.field.ensures.1 c.field.ensures.2 ∙ c.in_default-field.is))
 
 pub loop-place-preserved : goal.loop-place-preserved
 loop-place-preserved c =
@@ -56,7 +57,7 @@ loop-place-preserved c =
       words = goes_on (split c.args.words.now) _ _ m _ _ t.2;
       call =
           l.invariant.call
-          ∙ right _ _ _ _ _ _ _ _ _ _ c.in-Some-next.ensures.steps t.1 _ (omega arith) (sym c.field.ensures ∙ c.in-Some-field.is)
+          ∙ right _ _ _ _ _ _ _ _ _ _ c.in-Some-next.ensures.steps t.1 _ (omega arith) (by_kind _ c.field.ensures.1 c.field.ensures.2 ∙ c.in-Some-field.is)
           ∙ with_next (split c.args.words.now) _ _ m _ _ _ _ _ _ t.0;
       room = simp length-set l.invariant.room;
     }
