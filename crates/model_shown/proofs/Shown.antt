@@ -21,18 +21,22 @@ full names name h = by (among name names)
     by true = refl
     by false = take-append-le model_places names (name ∷ []) h
 
--- a name that is there already, and one that is new
-pub there : (names : List Name) (name : Name) → among name names ≡ true → length names ≤ model_places → names ≡ take model_places (with_name names name)
+-- a name that is there already, and one that is new, by what a search of the names says
+pub there : (names held : List Name) (name : Name) (found : Bool) → held ≡ names → length held ≤ model_places → found ≡ among name held → found ≡ true → names ≡ take model_places (with_name names name)
 unfolding with_name
-there names name is room = sym (ap (λ (b : Bool). take model_places (cond b names (names ++ (name ∷ [])))) is ∙ take_all model_places names room)
+there names held name found same room says is =
+    sym (ap (λ (b : Bool). take model_places (cond b names (names ++ (name ∷ [])))) (ap (among name) (sym same) ∙ sym says ∙ is)
+    ∙ take_all model_places names (omega (arith, ap length same, room)))
 
-pub new : (names : List Name) (name : Name) → among name names ≡ false → length names ≤ model_places → put_last names name ≡ take model_places (with_name names name)
+pub new : (names held : List Name) (name : Name) (found : Bool) → held ≡ names → length held ≤ model_places → found ≡ among name held → found ≡ false → put_last names name ≡ take model_places (with_name names name)
 unfolding with_name put_last
-new names name is room = put (ltb (length names) model_places) refl ∙ sym (ap (λ (b : Bool). take model_places (cond b names (names ++ (name ∷ [])))) is)
+new names held name found same room says is =
+    put (ltb (length names) model_places) refl
+    ∙ sym (ap (λ (b : Bool). take model_places (cond b names (names ++ (name ∷ [])))) (ap (among name) (sym same) ∙ sym says ∙ is))
   where
     put : (b : Bool) → ltb (length names) model_places ≡ b → cond b (names ++ (name ∷ [])) names ≡ take model_places (names ++ (name ∷ []))
     put true h = sym (take_all model_places (names ++ (name ∷ [])) (omega (arith, length-append names (name ∷ []), ltb-true (length names) model_places h)))
-    put false h = sym (take_all model_places names room) ∙ sym (take-append-le model_places names (name ∷ []) (ltb-false (length names) model_places h))
+    put false h = sym (take_all model_places names (omega (arith, ap length same, room))) ∙ sym (take-append-le model_places names (name ∷ []) (ltb-false (length names) model_places h))
 
 -- of the names so far those that have places say which the next ones are
 kept : (names : List Name) (name : Name) → take model_places (with_name (take model_places names) name) ≡ take model_places (with_name names name)
@@ -70,5 +74,6 @@ unfolding display_after
 display_length shown [] = le-add_right (length shown) 0
 display_length shown (name ∷ names) = omega (arith, display_length (with_name shown (display_name name)) names, with_length shown (display_name name))
 
-pub all_kept : (names : List Name) → length names ≤ model_places → take model_places (display_after [] names) ≡ display_after [] names
-all_kept names few = take_all model_places (display_after [] names) (omega (arith, display_length [] names, few))
+-- so none is cut off where there are few
+pub all_kept : (names shown : List Name) → shown ≡ take model_places (display_after [] names) → length names ≤ model_places → shown ≡ display_after [] names
+all_kept names shown is few = is ∙ take_all model_places (display_after [] names) (omega (arith, display_length [] names, few))

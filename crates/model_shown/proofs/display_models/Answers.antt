@@ -11,6 +11,6 @@ use Rattle.model_shown.proofs.display_models.Goals as goal
 
 pub returns-clause-all : goal.returns-clause-all
 returns-clause-all c few =
-    c.loop-model.invariant
-    ∙ ap (λ (names : List Name). take model_places (display_after [] names)) (take_all c.loop-model.model-index c.args.models.now (omega (arith, c.loop-model-test.false)))
-    ∙ all_kept c.args.models.now few
+    all_kept c.args.models.now c.loop-model.shown
+    (c.loop-model.invariant ∙ ap (λ (names : List Name). take model_places (display_after [] names)) (take_all c.loop-model.model-index c.args.models.now (omega (arith, c.loop-model-test.false))))
+    few
