@@ -21,18 +21,18 @@ full names name h = by (among name names)
     by true = refl
     by false = take-append-le model_places names (name ∷ []) h
 
--- a name that is there already, and one that is new, by what a search of the names says
-pub there : (names held : List Name) (name : Name) (found : Bool) → held ≡ names → length held ≤ model_places → found ≡ among name held → found ≡ true → names ≡ take model_places (with_name names name)
+-- the next names by what a search of the names says: the name is there already, or it is new
+next_by : (names held : List Name) (name : Name) (found b : Bool) → held ≡ names → found ≡ among name held → found ≡ b → take model_places (with_name names name) ≡ take model_places (cond b names (names ++ (name ∷ [])))
 unfolding with_name
+next_by names held name found b same says is = ap (λ (b : Bool). take model_places (cond b names (names ++ (name ∷ [])))) (ap (among name) (sym same) ∙ sym says ∙ is)
+
+pub there : (names held : List Name) (name : Name) (found : Bool) → held ≡ names → length held ≤ model_places → found ≡ among name held → found ≡ true → names ≡ take model_places (with_name names name)
 there names held name found same room says is =
-    sym (ap (λ (b : Bool). take model_places (cond b names (names ++ (name ∷ [])))) (ap (among name) (sym same) ∙ sym says ∙ is)
-    ∙ take_all model_places names (omega (arith, ap length same, room)))
+    sym (next_by names held name found true same says is ∙ take_all model_places names (omega (arith, ap length same, room)))
 
 pub new : (names held : List Name) (name : Name) (found : Bool) → held ≡ names → length held ≤ model_places → found ≡ among name held → found ≡ false → put_last names name ≡ take model_places (with_name names name)
-unfolding with_name put_last
-new names held name found same room says is =
-    put (ltb (length names) model_places) refl
-    ∙ sym (ap (λ (b : Bool). take model_places (cond b names (names ++ (name ∷ [])))) (ap (among name) (sym same) ∙ sym says ∙ is))
+unfolding put_last
+new names held name found same room says is = put (ltb (length names) model_places) refl ∙ sym (next_by names held name found false same says is)
   where
     put : (b : Bool) → ltb (length names) model_places ≡ b → cond b (names ++ (name ∷ [])) names ≡ take model_places (names ++ (name ∷ []))
     put true h = sym (take_all model_places (names ++ (name ∷ [])) (omega (arith, length-append names (name ∷ []), ltb-true (length names) model_places h)))

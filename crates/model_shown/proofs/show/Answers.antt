@@ -1,3 +1,4 @@
+-- `model_shown::show` meets its contract, whether the name is there or new. Assumes nothing.
 use Rattle.model_shown.specs.Display.{among}
 use Rattle.model_shown.proofs.Shown.{there, new}
 use Rattle.model_shown.proofs.show.Goals as goal
