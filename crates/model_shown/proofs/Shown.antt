@@ -54,14 +54,16 @@ unfolding display_after
 display_append shown [] name = refl
 display_append shown (x ∷ names) name = display_append (with_name shown (display_name x)) names name
 
-pub display_next : (names : List Name) (i : ℕ) (d : Name) → i < length names → take model_places (display_after [] (take (i + 1) names)) ≡ take model_places (with_name (take model_places (display_after [] (take i names))) (display_name (get_or names i d)))
-display_next names i d h =
-    ap (λ (xs : List Name). take model_places (display_after [] xs)) (take_more names i d h)
-    ∙ ap (take model_places) (display_append [] (take i names) (get_or names i d))
-    ∙ sym (kept (display_after [] (take i names)) (display_name (get_or names i d)))
+-- the names so far, with the next
+pub display_next : (names : List Name) (i : ℕ) (d : Name) → i < length names → display_after [] (take (i + 1) names) ≡ with_name (display_after [] (take i names)) (display_name (get_or names i d))
+display_next names i d h = ap (display_after []) (take_more names i d h) ∙ display_append [] (take i names) (get_or names i d)
+
+-- those of them that have places
+pub next_kept : (names : List Name) (i : ℕ) (d : Name) → i < length names → take model_places (display_after [] (take (i + 1) names)) ≡ take model_places (with_name (take model_places (display_after [] (take i names))) (display_name (get_or names i d)))
+next_kept names i d h = ap (take model_places) (display_next names i d h) ∙ sym (kept (display_after [] (take i names)) (display_name (get_or names i d)))
 
 -- no more names are shown than there are
-with_length : (names : List Name) (name : Name) → length (with_name names name) ≤ length names + 1
+pub with_length : (names : List Name) (name : Name) → length (with_name names name) ≤ length names + 1
 unfolding with_name
 with_length names name = by (among name names)
   where
@@ -69,7 +71,7 @@ with_length names name = by (among name names)
     by true = le-add_right (length names) 1
     by false = le_of_eq (length-append names (name ∷ []))
 
-display_length : (shown names : List Name) → length (display_after shown names) ≤ length shown + length names
+pub display_length : (shown names : List Name) → length (display_after shown names) ≤ length shown + length names
 unfolding display_after
 display_length shown [] = le-add_right (length shown) 0
 display_length shown (name ∷ names) = omega (arith, display_length (with_name shown (display_name name)) names, with_length shown (display_name name))

@@ -28,7 +28,7 @@ fn show(shown: &mut Names, name: Name)
 }
 
 // The models' names as they are shown, each once, as many as an answer has places for.
-#[tactic(auto, using(crate::proofs::Shown::display_next), unfolding(crate::specs::Display::display_after))]
+#[tactic(auto, using(crate::proofs::Shown::next_kept), unfolding(crate::specs::Display::display_after))]
 pub fn display_models(models: &[Name]) -> Names
     ensures shown { result ≡ take model_places (Spec.display_after [] models.now) }
     ensures all { length models.now ≤ model_places → result ≡ Spec.display_after [] models.now }
