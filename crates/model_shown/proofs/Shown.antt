@@ -21,6 +21,19 @@ full names name h = by (among name names)
     by true = refl
     by false = take-append-le model_places names (name ∷ []) h
 
+-- as many names as there are places for: none is cut off
+pub none_cut : (names : List Name) → length names ≤ model_places → take model_places names ≡ names
+none_cut names room = take_all model_places names room
+
+-- a name that is put last has the next place, or is cut off
+pub put_kept : (names : List Name) (name : Name) → length names ≤ model_places → put_last names name ≡ take model_places (names ++ (name ∷ []))
+unfolding put_last
+put_kept names name room = by (ltb (length names) model_places) refl
+  where
+    by : (b : Bool) → ltb (length names) model_places ≡ b → cond b (names ++ (name ∷ [])) names ≡ take model_places (names ++ (name ∷ []))
+    by true h = sym (none_cut (names ++ (name ∷ [])) (omega (arith, length-append names (name ∷ []), ltb-true (length names) model_places h)))
+    by false h = sym (none_cut names room) ∙ sym (take-append-le model_places names (name ∷ []) (ltb-false (length names) model_places h))
+
 -- the next names by what a search of the names says: the name is there already, or it is new
 next_by : (names held : List Name) (name : Name) (found b : Bool) → held ≡ names → found ≡ among name held → found ≡ b → take model_places (with_name names name) ≡ take model_places (cond b names (names ++ (name ∷ [])))
 unfolding with_name
@@ -28,22 +41,18 @@ next_by names held name found b same says is = ap (λ (b : Bool). take model_pla
 
 pub there : (names held : List Name) (name : Name) (found : Bool) → held ≡ names → length held ≤ model_places → found ≡ among name held → found ≡ true → names ≡ take model_places (with_name names name)
 there names held name found same room says is =
-    sym (next_by names held name found true same says is ∙ take_all model_places names (omega (arith, ap length same, room)))
+    sym (next_by names held name found true same says is ∙ none_cut names (omega (arith, ap length same, room)))
 
 pub new : (names held : List Name) (name : Name) (found : Bool) → held ≡ names → length held ≤ model_places → found ≡ among name held → found ≡ false → put_last names name ≡ take model_places (with_name names name)
-unfolding put_last
-new names held name found same room says is = put (ltb (length names) model_places) refl ∙ sym (next_by names held name found false same says is)
-  where
-    put : (b : Bool) → ltb (length names) model_places ≡ b → cond b (names ++ (name ∷ [])) names ≡ take model_places (names ++ (name ∷ []))
-    put true h = sym (take_all model_places (names ++ (name ∷ [])) (omega (arith, length-append names (name ∷ []), ltb-true (length names) model_places h)))
-    put false h = sym (take_all model_places names (omega (arith, ap length same, room))) ∙ sym (take-append-le model_places names (name ∷ []) (ltb-false (length names) model_places h))
+new names held name found same room says is =
+    put_kept names name (omega (arith, ap length same, room)) ∙ sym (next_by names held name found false same says is)
 
 -- of the names so far those that have places say which the next ones are
 kept : (names : List Name) (name : Name) → take model_places (with_name (take model_places names) name) ≡ take model_places (with_name names name)
 kept names name = by (ltb (length names) model_places) refl
   where
     by : (b : Bool) → ltb (length names) model_places ≡ b → take model_places (with_name (take model_places names) name) ≡ take model_places (with_name names name)
-    by true h = ap (λ (xs : List Name). take model_places (with_name xs name)) (take_all model_places names (omega (arith, ltb-true (length names) model_places h)))
+    by true h = ap (λ (xs : List Name). take model_places (with_name xs name)) (none_cut names (omega (arith, ltb-true (length names) model_places h)))
     by false h =
         full (take model_places names) name (omega (arith, length-take-le model_places names (ltb-false (length names) model_places h)))
         ∙ take-take model_places model_places names (le_refl model_places)
@@ -78,4 +87,4 @@ display_length shown (name ∷ names) = omega (arith, display_length (with_name 
 
 -- so none is cut off where there are few
 pub all_kept : (names shown : List Name) → shown ≡ take model_places (display_after [] names) → length names ≤ model_places → shown ≡ display_after [] names
-all_kept names shown is few = is ∙ take_all model_places (display_after [] names) (omega (arith, display_length [] names, few))
+all_kept names shown is few = is ∙ none_cut (display_after [] names) (omega (arith, display_length [] names, few))

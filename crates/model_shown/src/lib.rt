@@ -19,6 +19,7 @@ pub fn display_model_name(model: Name) -> Name
 }
 
 // Puts a name last, unless it is there or no place is left.
+#[tactic(auto, using(crate::proofs::Shown::none_cut, crate::proofs::Shown::put_kept), unfolding(crate::specs::Display::among, crate::specs::Display::with_name))]
 fn show(shown: &mut Names, name: Name)
     ensures { shown.new ≡ take model_places (Spec.with_name shown.old name) }
 {
@@ -28,7 +29,7 @@ fn show(shown: &mut Names, name: Name)
 }
 
 // The models' names as they are shown, each once, as many as an answer has places for.
-#[tactic(auto, using(crate::proofs::Shown::next_kept), unfolding(crate::specs::Display::display_after))]
+#[tactic(auto, using(crate::proofs::Shown::next_kept, crate::proofs::Shown::all_kept, std::proofs::lemmas::List::take_all), unfolding(crate::specs::Display::display_after))]
 pub fn display_models(models: &[Name]) -> Names
     ensures shown { result ≡ take model_places (Spec.display_after [] models.now) }
     ensures all { length models.now ≤ model_places → result ≡ Spec.display_after [] models.now }
