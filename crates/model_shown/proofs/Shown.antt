@@ -71,7 +71,7 @@ display_next names i d h = ap (display_after []) (take_more names i d h) ∙ dis
 pub next_kept : (names : List Name) (i : ℕ) (d : Name) → i < length names → take model_places (display_after [] (take (i + 1) names)) ≡ take model_places (with_name (take model_places (display_after [] (take i names))) (display_name (get_or names i d)))
 next_kept names i d h = ap (take model_places) (display_next names i d h) ∙ sym (kept (display_after [] (take i names)) (display_name (get_or names i d)))
 
--- no more names are shown than there are
+-- with each name there is one more at most, so no more are shown than there are
 pub with_length : (names : List Name) (name : Name) → length (with_name names name) ≤ length names + 1
 unfolding with_name
 with_length names name = by (among name names)
